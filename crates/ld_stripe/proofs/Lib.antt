@@ -1,0 +1,7 @@
+pub mod FirstDueLemmas
+pub mod GivenLemmas
+pub mod DueLemmas
+pub mod PatternLemmas
+pub mod LowestTermsLemmas
+pub mod StripingLaws
+pub mod StripeFaultLemmas

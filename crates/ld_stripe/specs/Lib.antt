@@ -1,0 +1,3 @@
+pub mod Striping
+pub mod StripeFault
+pub mod Pattern

@@ -1,0 +1,15 @@
+//! Striping: which position of a sequence owns each index of a test.
+#![tactic(auto)]
+
+mod fault;
+mod laws;
+mod pattern;
+mod stripe;
+mod weights;
+
+pub use fault::StripeFault;
+pub use laws::{every_period, one_owner, one_striping, shares};
+pub use stripe::Stripe;
+
+#[cfg(test)]
+mod tests;

@@ -1,0 +1,43 @@
+// The owners of one period.
+ghost use Rattle.std.specs.Prelude.{◌≡◌, ◌<◌, ◌≤◌, length, sum, IfOk};
+ghost use Rattle.ld_stripe.specs.Striping.{IsFirstDue, IsStriping, FollowsWeights};
+ghost use Rattle.ld_stripe.specs.Pattern.{AreGiven};
+
+use std::alloc::{AllocError, Global};
+
+// The position that the next index goes to, behind the owners of all earlier ones.
+fn first_due(weights: &[u64], given: &[u64], owners: &[usize], period: u64) -> usize
+    requires period { sum weights.now ≡ period }
+    requires small { period ≤ 100000 }
+    requires given { AreGiven weights.now owners.now given.now }
+    requires follows { FollowsWeights weights.now owners.now }
+    requires more { length owners.now < period }
+    ensures { IsFirstDue weights.now owners.now result }
+{
+    let index = owners.len() as u64;
+    let mut owner = 0;
+    let mut most = 0;
+    for (position, weight) in weights.iter().enumerate() {
+        if most < *weight && given[position] * period <= index * *weight {
+            owner = position;
+            most = *weight;
+        }
+    }
+    owner
+}
+
+// The owners of one period, which is the sum of the weights.
+pub fn owners_of(alloc: Global, weights: &[u64], period: u64) -> Result<Vec<usize>, AllocError>
+    requires period { sum weights.now ≡ period }
+    requires small { period ≤ 100000 }
+    ensures { IfOk result (λ owners. IsStriping weights.now owners.items) }
+{
+    let mut owners = Vec::with_capacity(alloc, period as usize)?;
+    let mut given = vec![in alloc; 0u64; weights.len()]?;
+    for _index in 0..period {
+        let owner = first_due(weights, &given, &owners, period);
+        given[owner] += 1;
+        owners.push(owner)?;
+    }
+    Ok(owners)
+}

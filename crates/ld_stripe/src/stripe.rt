@@ -1,0 +1,66 @@
+use crate::fault::StripeFault;
+use crate::pattern::owners_of;
+use crate::weights::{capped_sum, first_zero, in_lowest_terms};
+use std::alloc::Global;
+use std::marker::Model;
+
+/// The greatest period that a striping may have, in indices.
+const GREATEST_PERIOD: u64 = 100_000;
+
+/// A striping: it says which position owns each index. It is seen as the weights of the positions,
+/// in lowest terms, and the owner of each index of one period.
+#[derive(Debug, Drop)]
+pub struct Stripe {
+    weights: Vec<u64>,
+    owners: Vec<usize>,
+}
+
+impl Model for Stripe {
+    ghost use Rattle.std.specs.Prelude.{◌<◌, length};
+    ghost use Rattle.ld_stripe.specs.Striping.{Striping, IsStriping};
+
+    ghost Value = { Striping };
+
+    ghost view = { λ s. record { weights = s.weights.items; owners = s.owners.items } };
+
+    ghost invariant = { λ s. IsStriping s.weights.items s.owners.items × (0 < length s.owners.items) };
+}
+
+impl Stripe {
+    ghost use Rattle.std.specs.Prelude.{◌≡◌, ◌≢◌, ◌<◌, ◌≤◌, ◌%◌, length, IfOk, IfErr};
+    ghost use Rattle.ld_stripe.specs.Striping.{IsStriping, IsStripingOf, owner_at};
+    ghost use Rattle.ld_stripe.specs.StripeFault.{IsRefusal};
+    ghost use Rattle.ld_stripe.specs.declared.fault.StripeFault.{StripeFault};
+
+    /// The striping of 1 to 100 weights, one for each position.
+    ///
+    /// The weights are divided by their greatest common divisor, and their sum is then the period.
+    /// Refused are, in this order, a weight that is zero and a period of more than 100,000.
+    pub fn of_weights(alloc: Global, weights: &[u64]) -> Result<Stripe, StripeFault>
+        requires some { 0 < length weights.now }
+        requires few { length weights.now ≤ 100 }
+        ensures striping { IfOk result (λ s. IsStripingOf weights.now s) }
+        ensures accepted { IfOk result (λ s. (f : StripeFault) → IsRefusal weights.now f → ⊥) }
+        ensures refused { IfErr result (λ f. f ≢ StripeFault.Memory → IsRefusal weights.now f) }
+    {
+        if let Some(position) = first_zero(weights) {
+            return Err(StripeFault::ZeroWeight(position));
+        }
+        let weights = in_lowest_terms(alloc, weights)?;
+        let period = capped_sum(&weights);
+        if period > GREATEST_PERIOD {
+            return Err(StripeFault::PeriodTooLarge(period));
+        }
+        let owners = owners_of(alloc, &weights, period)?;
+        Ok(Stripe { weights, owners })
+    }
+
+    /// The position that owns an index, counted from 0.
+    pub fn owner(&self, index: u64) -> usize
+        ensures owner { result ≡ owner_at self.now.owners index }
+        ensures striping { IsStriping self.now.weights self.now.owners }
+    {
+        let period = self.owners.len() as u64;
+        self.owners[(index % period) as usize]
+    }
+}
