@@ -1,0 +1,2 @@
+pub mod IndicesLemmas
+pub mod WordsLemmas

@@ -1,0 +1,13 @@
+//! The commands: words in, text and a status out.
+#![tactic(auto)]
+
+mod desk;
+mod indices;
+mod refusal;
+mod text;
+mod words;
+
+pub use refusal::Refusal;
+
+#[cfg(test)]
+mod tests;

@@ -1,0 +1,83 @@
+use crate::text::line_with;
+use ld_stripe::StripeFault;
+use std::alloc::{AllocError, Global};
+use thiserror::Error;
+
+/// Why the words of a command line have no text.
+#[derive(Debug, Drop, PartialEq, Eq, Error)]
+pub enum Refusal {
+    /// The word at this place, counted from 0, can't stand there, or the words end before it.
+    #[error("the words are refused at place {0}")]
+    Words(usize),
+    /// The weights have no striping.
+    #[error(transparent)]
+    Stripe(StripeFault),
+    /// The position is not below the number of weights.
+    #[error("there is no position {0}")]
+    NoSuchPosition(u32),
+    /// There is no memory left.
+    #[error("out of memory")]
+    Memory,
+}
+
+impl Refusal {
+    ghost use Rattle.std.specs.Prelude.{◌≡◌, IfOk};
+    ghost use Rattle.ld_run.specs.Refusal.{line_of, status_of};
+
+    /// The status that the program ends with: 2 for words, 5 for what they name, 9 for memory.
+    pub fn status(&self) -> u8
+        ensures { result ≡ status_of self.now }
+    {
+        match self {
+            Refusal::Words(_) => 2,
+            Refusal::Stripe(StripeFault::Memory) | Refusal::Memory => 9,
+            Refusal::Stripe(_) | Refusal::NoSuchPosition(_) => 5,
+        }
+    }
+
+    /// The line that says the refusal on standard error.
+    pub fn line(&self, alloc: Global) -> Result<Vec<u8>, AllocError>
+        ensures { IfOk result (λ line. line.items ≡ line_of self.now) }
+    {
+        match self {
+            Refusal::Words(place) => line_with(alloc, b"error words ", *place as u64),
+            Refusal::Stripe(StripeFault::ZeroWeight(position)) => {
+                line_with(alloc, b"error 21 ZeroWeight ", *position as u64)
+            }
+            Refusal::Stripe(StripeFault::PeriodTooLarge(period)) => {
+                line_with(alloc, b"error 16 PeriodTooLarge ", *period)
+            }
+            Refusal::NoSuchPosition(position) => {
+                line_with(alloc, b"error 22 NoSuchPosition ", *position as u64)
+            }
+            Refusal::Stripe(StripeFault::Memory) | Refusal::Memory => {
+                Vec::from_slice(alloc, b"error memory\n")
+            }
+        }
+    }
+}
+
+impl From<AllocError> for Refusal {
+    ghost use Rattle.std.specs.Prelude.{◌≡◌};
+    ghost use Rattle.ld_run.specs.declared.refusal.Refusal.TheVariants.{Memory};
+
+    ghost from_gives = { λ _ refusal. refusal ≡ Memory };
+
+    fn from(_error: AllocError) -> Refusal {
+        Refusal::Memory
+    }
+}
+
+impl From<StripeFault> for Refusal {
+    ghost use Rattle.ld_run.specs.StripeRefusal.{refusal_of};
+    ghost use Rattle.std.specs.Prelude.{◌≡◌};
+
+    ghost from_gives = { λ fault refusal. refusal ≡ refusal_of fault };
+
+    fn from(fault: StripeFault) -> Refusal {
+        match fault {
+            StripeFault::Memory => Refusal::Memory,
+            fault => Refusal::Stripe(fault),
+        }
+    }
+}
