@@ -1,5 +1,5 @@
 -- A sink in memory, call by call.
-use Rattle.std.specs.Prelude.{◌≡◌, ◌+◌, ◌⊎◌, ◌++◌, ℕ, List, Some, Result, Ok, Err, Contains, length, min}
+use Rattle.std.specs.Prelude.{◌≡◌, ◌+◌, ◌++◌, ℕ, List, Some, Result, Ok, Err, Contains, length, min}
 use Rattle.ld_outside.specs.SinkView.{SinkView, last_count}
 use Rattle.ld_outside.specs.declared.sink.SinkFault.{SinkFault}
 use Rattle.ld_outside.specs.declared.sink.SinkFault.TheVariants.{Failed, Memory}

@@ -21,7 +21,7 @@ pub record IsLineSoFar (numbers text : List ℕ) (follows : Bool) : Type 0 where
 
 -- joining with one more piece at the end
 join-push : (c : ℕ) (x : List ℕ) (xs : List (List ℕ)) (y : List ℕ) →
-  join_with_byte c ((x ∷ xs) ++ y ∷ []) ≡ join_with_byte c (x ∷ xs) ++ (c ∷ y)
+    join_with_byte c ((x ∷ xs) ++ y ∷ []) ≡ join_with_byte c (x ∷ xs) ++ (c ∷ y)
 join-push c x [] y = refl
 join-push c x (z ∷ zs) y = ap (λ ws. x ++ (c ∷ ws)) (join-push c z zs y) ∙ sym (append_assoc x (c ∷ join_with_byte c (z ∷ zs)) (c ∷ y))
 
@@ -35,27 +35,27 @@ is_some-push (m ∷ ms) n = refl
 
 -- one number more
 pub line_more : (numbers text : List ℕ) (follows : Bool) (n : ℕ) → IsLineSoFar numbers text follows →
-  IsLineSoFar (numbers ++ n ∷ []) (text ++ item follows n) true
+    IsLineSoFar (numbers ++ n ∷ []) (text ++ item follows n) true
 line_more numbers text follows n so_far = record {
   text_is = ap₂ (λ t f. t ++ item f n) so_far.text_is so_far.follows_is ∙ sym (spaced-push numbers n);
-  follows_is = sym (is_some-push numbers n)
+  follows_is = sym (is_some-push numbers n);
 }
 
 -- an index more: it is kept where the position owns it
 owned-more : (owners : List ℕ) (position count : ℕ) (is_owner : Bool) →
-  nat_eq (owner_at owners count) position ≡ is_owner →
-  owned_below owners position (count + 1) ≡ owned_below owners position count ++ cond is_owner (count ∷ []) []
+    nat_eq (owner_at owners count) position ≡ is_owner →
+    owned_below owners position (count + 1) ≡ owned_below owners position count ++ cond is_owner (count ∷ []) []
 owned-more owners position count is_owner is =
-  let test = λ (x : ℕ). nat_eq (owner_at owners x) position in
-  ap (λ n. filter test (range_with_len 0 n)) (add-one count)
+    let test = λ (x : ℕ). nat_eq (owner_at owners x) position in
+    ap (λ n. filter test (range_with_len 0 n)) (add-one count)
     ∙ ap (λ xs. filter test xs) (range_more 0 count ∙ ap (λ x. range_with_len 0 count ++ x ∷ []) (zero-add count))
     ∙ filter-append test (range_with_len 0 count) (count ∷ [])
     ∙ ap (λ b. owned_below owners position count ++ cond b (count ∷ []) []) is
 
 pub owned-yes : (owners : List ℕ) (position count : ℕ) → owner_at owners count ≡ position →
-  owned_below owners position (count + 1) ≡ owned_below owners position count ++ count ∷ []
+    owned_below owners position (count + 1) ≡ owned_below owners position count ++ count ∷ []
 owned-yes owners position count is = owned-more owners position count true (eq-eqb _ _ is)
 
 pub owned-no : (owners : List ℕ) (position count : ℕ) → (owner_at owners count ≡ position → ⊥) →
-  owned_below owners position (count + 1) ≡ owned_below owners position count
+    owned_below owners position (count + 1) ≡ owned_below owners position count
 owned-no owners position count other = owned-more owners position count false (ne_eqb _ _ other) ∙ append-nil _

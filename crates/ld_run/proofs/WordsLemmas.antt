@@ -1,6 +1,6 @@
 -- Numbers read from words.
-use Rattle.std.proofs.Common.{◌≡◌, ◌<◌, ◌≤◌, ◌+◌, ◌^◌, ◌∙◌, ◌++◌, ◌∷◌, [], Bor, ℕ, zero, suc, List, length, get_or, take, map, arith, refl, ap, ap₂, sym, subst, true, rules}
-use Rattle.std.specs.Prelude.{Option, Some, None, Result, Ok, codes, slice_get, nat_le, ◌&&◌, if◌then◌else◌}
+use Rattle.std.proofs.Common.{◌≡◌, ◌<◌, ◌≤◌, ◌+◌, ◌^◌, ◌∙◌, ◌++◌, ◌∷◌, [], Bor, ℕ, zero, suc, List, length, get_or, take, map, arith, refl, ap, ap₂, sym, subst, true, rules, nat_eq, Vec, Global}
+use Rattle.std.specs.Prelude.{Option, Some, None, Result, Ok, codes, MatchOption, slice_get, count_by, nat_le, ◌&&◌, if◌then◌else◌}
 use Rattle.std.specs.Result.{result_ok}
 use Rattle.std.proofs.lemmas.Bool.{and_parts, leb-true}
 use Rattle.std.specs.Char.{is_ascii_digit}
@@ -8,12 +8,13 @@ use Rattle.std.specs.List.{list_all}
 use Rattle.std.specs.Str.Parse.{ParsesUnsigned, digits_value}
 use Rattle.std.proofs.lemmas.Str.Parse.{IsNumeralModel, numerals_by_value, parse_gives, digits_value_short}
 use Rattle.std.specs.Option.{option_and_then}
-use Rattle.std.proofs.lemmas.List.{take_more, map-append}
-use Rattle.ld_run.specs.Words.{is_number, number_of, AreWeights, AskForStripe, StandsAt, most_indices}
+use Rattle.std.proofs.lemmas.List.{take_more, map-append, length-map}
+use Rattle.std.proofs.lemmas.List.Splits.{length-slice_split}
+use Rattle.ld_run.specs.Words.{is_number, most_weights, number_of, parts_of, AreWeights, AskForStripe, StandsAt, most_indices}
 
 -- where one text is no number, they aren't numbers
 not_numbers : (texts : List (List ℕ)) (i : ℕ) → i < length texts → number_of (get_or texts i []) ≡ None →
-  (numbers : List ℕ) → map number_of texts ≡ map Some numbers → ⊥
+    (numbers : List ℕ) → map number_of texts ≡ map Some numbers → ⊥
 not_numbers [] i below none numbers all = absurd (omega arith)
 not_numbers (t ∷ ts) zero below none [] all = cc
 not_numbers (t ∷ ts) zero below none (n ∷ ns) all = cc
@@ -22,21 +23,21 @@ not_numbers (t ∷ ts) (suc i) below none (n ∷ ns) all = not_numbers ts i (ome
 
 -- one text more that is a number
 numbers_more : (texts : List (List ℕ)) (i : ℕ) (numbers : List ℕ) (n : ℕ) → i < length texts →
-  map number_of (take i texts) ≡ map Some numbers → number_of (get_or texts i []) ≡ Some n →
-  map number_of (take (i + 1) texts) ≡ map Some (numbers ++ n ∷ [])
+    map number_of (take i texts) ≡ map Some numbers → number_of (get_or texts i []) ≡ Some n →
+    map number_of (take (i + 1) texts) ≡ map Some (numbers ++ n ∷ [])
 numbers_more texts i numbers n below so_far is =
-  ap (map number_of) (take_more texts i [] below)
+    ap (map number_of) (take_more texts i [] below)
     ∙ map-append number_of (take i texts) (get_or texts i [] ∷ [])
     ∙ ap₂ (λ xs x. xs ++ x ∷ []) so_far is
     ∙ sym (map-append Some numbers (n ∷ []))
 
 -- words that stand at each place, and end there, are the command
 pub asked_for_stripe : (words : List (List ℕ)) (weights : List ℕ) (position count : ℕ) →
-  length words ≤ 4 → StandsAt words 0 →
-  ((word : List ℕ) × (slice_get words 1 ≡ Some word) × AreWeights word weights) →
-  option_and_then number_of (slice_get words 2) ≡ Some position →
-  option_and_then number_of (slice_get words 3) ≡ Some count →
-  count ≤ most_indices → AskForStripe words weights position count
+    length words ≤ 4 → StandsAt words 0 →
+    ((word : List ℕ) × (slice_get words 1 ≡ Some word) × AreWeights word weights) →
+    option_and_then number_of (slice_get words 2) ≡ Some position →
+    option_and_then number_of (slice_get words 3) ≡ Some count →
+    count ≤ most_indices → AskForStripe words weights position count
 asked_for_stripe [] weights position count long command are at_position at_count small = cc
 asked_for_stripe (a ∷ []) weights position count long command are at_position at_count small = cc
 asked_for_stripe (a ∷ b ∷ []) weights position count long command are at_position at_count small = cc
@@ -50,7 +51,7 @@ asked_for_stripe (a ∷ b ∷ c ∷ d ∷ []) weights position count long comman
   weights_are = subst (λ w. AreWeights w weights) (sym (let e : b ≡ are.0 = cc in e)) are.2;
   position_is = at_position;
   count_is = at_count;
-  count_small = small
+  count_small = small;
 }
 
 -- digits, in the words of std's parsing
@@ -59,22 +60,22 @@ digits_model = numerals_by_value _ (search rules)
 
 -- what is parsed of a number is its value
 pub parsed_number : {E : Type 0} (text : List ℕ) (result : Result ℕ E) → ParsesUnsigned 32 10 text result →
-  is_number text ≡ true → result_ok result ≡ number_of text
+    is_number text ≡ true → result_ok result ≡ number_of text
 parsed_number text result parses is =
-  let digits_and_some = and_parts (list_all is_ascii_digit text && nat_le 1 (length text)) (nat_le (length text) 9) is in
-  let digits = and_parts (list_all is_ascii_digit text) (nat_le 1 (length text)) digits_and_some.0 in
-  let some : 0 < length text = leb-true 1 (length text) digits.1 in
-  let short : length text ≤ 9 = leb-true (length text) 9 digits_and_some.1 in
-  let small : digits_value 10 text < 10 ^ 9 = digits_value_short digits_model text 9 digits.0 short in
-  let value = parse_gives digits_model 32 text result parses digits.0 some (omega arith) in
-  ap result_ok value ∙ sym (ap (λ b. if b then Some (digits_value 10 text) else None) is)
+    let digits_and_some = and_parts (list_all is_ascii_digit text && nat_le 1 (length text)) (nat_le (length text) 9) is in
+    let digits = and_parts (list_all is_ascii_digit text) (nat_le 1 (length text)) digits_and_some.0 in
+    let some : 0 < length text = leb-true 1 (length text) digits.1 in
+    let short : length text ≤ 9 = leb-true (length text) 9 digits_and_some.1 in
+    let small : digits_value 10 text < 10 ^ 9 = digits_value_short digits_model text 9 digits.0 short in
+    let value = parse_gives digits_model 32 text result parses digits.0 some (omega arith) in
+    ap result_ok value ∙ sym (ap (λ b. if b then Some (digits_value 10 text) else None) is)
 
 -- the texts behind references
 abbrev pub texts_of : List (Bor (List ℕ)) → List (List ℕ)
 texts_of texts = map (λ (text : Bor (List ℕ)). text.now) texts
 
 text_at : (texts : List (Bor (List ℕ))) (i : ℕ) (d : Bor (List ℕ)) → i < length texts →
-  get_or (texts_of texts) i [] ≡ (get_or texts i d).now
+    get_or (texts_of texts) i [] ≡ (get_or texts i d).now
 text_at (t ∷ ts) zero d below = refl
 text_at (t ∷ ts) (suc i) d below = text_at ts i d (omega arith)
 text_at [] i d below = absurd (omega arith)
@@ -85,17 +86,51 @@ length-texts_of (t ∷ ts) = ap suc (length-texts_of ts)
 
 -- where the text at an index is no number, they aren't numbers
 pub not_numbers_at : (texts : List (Bor (List ℕ))) (i : ℕ) (d : Bor (List ℕ)) (read : Option ℕ) → i < length texts →
-  read ≡ number_of (get_or texts i d).now → read ≡ None →
-  (numbers : List ℕ) → map number_of (texts_of texts) ≡ map Some numbers → ⊥
+    read ≡ number_of (get_or texts i d).now → read ≡ None →
+    (numbers : List ℕ) → map number_of (texts_of texts) ≡ map Some numbers → ⊥
 not_numbers_at texts i d read below is none =
-  let long = length-texts_of texts in
-  not_numbers (texts_of texts) i (omega arith) (ap number_of (text_at texts i d below) ∙ sym is ∙ none)
+    let long = length-texts_of texts in
+    not_numbers (texts_of texts) i (omega arith) (ap number_of (text_at texts i d below) ∙ sym is ∙ none)
 
 -- one text more that is a number
 pub numbers_more_at : (texts : List (Bor (List ℕ))) (i : ℕ) (d : Bor (List ℕ)) (read : Option ℕ) (numbers : List ℕ) (n : ℕ) →
-  i < length texts → map number_of (take i (texts_of texts)) ≡ map Some numbers →
-  read ≡ number_of (get_or texts i d).now → read ≡ Some n →
-  map number_of (take (i + 1) (texts_of texts)) ≡ map Some (numbers ++ n ∷ [])
+    i < length texts → map number_of (take i (texts_of texts)) ≡ map Some numbers →
+    read ≡ number_of (get_or texts i d).now → read ≡ Some n →
+    map number_of (take (i + 1) (texts_of texts)) ≡ map Some (numbers ++ n ∷ [])
 numbers_more_at texts i d read numbers n below so_far is some =
-  let long = length-texts_of texts in
-  numbers_more (texts_of texts) i numbers n (omega arith) so_far (ap number_of (text_at texts i d below) ∙ sym is ∙ some)
+    let long = length-texts_of texts in
+    numbers_more (texts_of texts) i numbers n (omega arith) so_far (ap number_of (text_at texts i d below) ∙ sym is ∙ some)
+
+-- numbers between commas are at least one
+weights_some : (text weights : List ℕ) → map number_of (parts_of text) ≡ map Some weights → 0 < length weights
+weights_some text weights are =
+    let same : length (map number_of (parts_of text)) ≡ length (map Some weights) = ap length are in
+    let numbers : length (map number_of (parts_of text)) ≡ length (parts_of text) = length-map (parts_of text) number_of in
+    let values : length (map Some weights) ≡ length weights = length-map weights (λ (n : ℕ). Some n) in
+    let parts : length (parts_of text) ≡ count_by (λ b. nat_eq b 44) text + 1 = length-slice_split (λ b. nat_eq b 44) text in
+    omega arith
+
+-- weights that are read from the parts of a word
+pub weights_from_parts : (word : List ℕ) (texts : List (Bor (List ℕ))) (weights : List ℕ) → texts_of texts ≡ parts_of word →
+    length texts ≤ most_weights → map number_of (texts_of texts) ≡ map Some weights → AreWeights word weights
+weights_from_parts word texts weights is few numbers =
+    let read : map number_of (parts_of word) ≡ map Some weights = sym (ap (map number_of) is) ∙ numbers in
+    let same : length (map number_of (texts_of texts)) ≡ length (map Some weights) = ap length numbers in
+    let left : length (map number_of (texts_of texts)) ≡ length (texts_of texts) = length-map (texts_of texts) number_of in
+    let right : length (map Some weights) ≡ length weights = length-map weights (λ (n : ℕ). Some n) in
+    let long = length-texts_of texts in
+    record {
+      numbers = read;
+      some = weights_some word weights read;
+      few = omega arith;
+    }
+
+-- what the reading of the parts found is what the word is
+pub found_weights : (word : List ℕ) (texts : List (Bor (List ℕ))) → texts_of texts ≡ parts_of word → length texts ≤ most_weights →
+    (found : Option (Vec ℕ Global)) →
+    MatchOption found
+    ((numbers : List ℕ) → map number_of (texts_of texts) ≡ map Some numbers → ⊥)
+    (λ numbers. map number_of (texts_of texts) ≡ map Some numbers.items) →
+    MatchOption found ((weights : List ℕ) → AreWeights word weights → ⊥) (λ weights. AreWeights word weights.items)
+found_weights word texts is few None none = λ weights are. none weights (ap (map number_of) is ∙ are.numbers)
+found_weights word texts is few (Some numbers) all = weights_from_parts word texts numbers.items is few all

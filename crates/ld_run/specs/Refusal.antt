@@ -13,29 +13,39 @@ use Rattle.ld_run.specs.declared.refusal.Refusal.TheVariants.{Words, Stripe, NoS
 abbrev pub IsAccepted : List ℕ → Type 0
 IsAccepted weights = (f : StripeFault) → stripe.IsRefusal weights f → ⊥
 
--- The words are refused so: first as words, then for their weights, then for their position. Want of
--- memory is no refusal of theirs.
+-- `stripe` is refused so: first for its weights, then for its position
+abbrev pub IsStripeRefusal : List ℕ → ℕ → Refusal → Type 0
+IsStripeRefusal weights position (Words place) = ⊥
+IsStripeRefusal weights position (Stripe f) = stripe.IsRefusal weights f
+IsStripeRefusal weights position (NoSuchPosition p) =
+    IsAccepted weights × (p ≡ position) × (length weights ≤ position)
+IsStripeRefusal weights position Memory = ⊥
+
+-- The words are refused so: first as words, then for what they name. Want of memory is no refusal of
+-- theirs.
 abbrev pub IsRefused : List (List ℕ) → Refusal → Type 0
 IsRefused words (Words place) = IsRefusedAt words place
 IsRefused words (Stripe f) =
-  (weights : List ℕ) × (position : ℕ) × (count : ℕ)
-    × AskForStripe words weights position count × stripe.IsRefusal weights f
-IsRefused words (NoSuchPosition position) =
-  (weights : List ℕ) × (count : ℕ)
-    × AskForStripe words weights position count × IsAccepted weights × (length weights ≤ position)
+    (weights : List ℕ) × (position : ℕ) × (count : ℕ)
+    × AskForStripe words weights position count × IsStripeRefusal weights position (Stripe f)
+IsRefused words (NoSuchPosition p) =
+    (weights : List ℕ) × (position : ℕ) × (count : ℕ)
+    × AskForStripe words weights position count × IsStripeRefusal weights position (NoSuchPosition p)
 IsRefused words Memory = ⊥
 
--- the text that the words ask for: the line of the indices that the position owns
-pub record HasText (words : List (List ℕ)) (text : List ℕ) : Type 0 where
-  pub weights : List ℕ
-  pub position : ℕ
-  pub count : ℕ
-  pub striping : Striping
-  pub asked : AskForStripe words weights position count
+-- the text of `stripe`: the line of the indices that the position owns in the weights' striping
+pub record IsStripeText (weights : List ℕ) (position count : ℕ) (text : List ℕ) : Type 0 where
   pub accepted : IsAccepted weights
   pub inside : position < length weights
+  pub striping : Striping
   pub striped : IsStripingOf weights striping
   pub text_is : text ≡ numbers_line (owned_below striping.owners position count)
+
+-- the text that the words ask for
+abbrev pub HasText : List (List ℕ) → List ℕ → Type 0
+HasText words text =
+    (weights : List ℕ) × (position : ℕ) × (count : ℕ)
+    × AskForStripe words weights position count × IsStripeText weights position count text
 
 -- the status that a refusal ends with
 abbrev pub status_of : Refusal → ℕ

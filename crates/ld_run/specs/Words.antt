@@ -29,6 +29,7 @@ most_indices = 1000000
 -- weights are 1 to 100 numbers, joined by commas
 pub record AreWeights (text weights : List ℕ) : Type 0 where
   pub numbers : map number_of (parts_of text) ≡ map Some weights
+  pub some : 0 < length weights
   pub few : length weights ≤ most_weights
 
 -- a word can stand at this place of `stripe WEIGHTS POSITION N`

@@ -13,9 +13,7 @@ pub fn indices_line(
     position: usize,
     count: u32,
 ) -> Result<Vec<u8>, AllocError>
-    ensures {
-        IfOk result (λ text. text.items ≡ numbers_line (owned_below stripe.now.owners position count))
-    }
+    ensures { IfOk result (λ text. text.items ≡ numbers_line (owned_below stripe.now.owners position count)) }
 {
     let mut text = Vec::new(alloc);
     let mut follows = false;

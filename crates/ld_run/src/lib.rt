@@ -7,6 +7,7 @@ mod refusal;
 mod text;
 mod words;
 
+pub use desk::{command, desk_command};
 pub use refusal::Refusal;
 
 #[cfg(test)]

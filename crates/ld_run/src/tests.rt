@@ -1,0 +1,132 @@
+use super::*;
+use ld_outside::{MemSink, Numbers, SureSink};
+use std::alloc::{AllocError, Global};
+use std::test::Fail;
+
+/// A row of words, separated by blanks, with the status and the bytes on the two sinks.
+#[derive(Drop)]
+struct Row {
+    words: &'static str,
+    status: u8,
+    out: &'static str,
+    err: &'static str,
+}
+
+const fn case(words: &'static str, status: u8, out: &'static str, err: &'static str) -> Row {
+    Row {
+        words,
+        status,
+        out,
+        err,
+    }
+}
+
+fn split(alloc: Global, words: &str) -> Result<Vec<String>, AllocError> {
+    let mut list = Vec::new(alloc);
+    for word in words.split_whitespace() {
+        list.push(String::from_str(alloc, word)?)?;
+    }
+    Ok(list)
+}
+
+#[test]
+fn stripe_answers(rt: HostRuntime) -> Result<(), Fail> {
+    let rows = [
+        case("stripe 3,2,1,1,1,1,1 0 10", 0, "0 4 7\n", ""),
+        case("stripe 3,2,1,1,1,1,1 1 10", 0, "1 5\n", ""),
+        case("stripe 3,2,1,1,1,1,1 6 10", 0, "9\n", ""),
+        case("stripe 2,1,3 2 6", 0, "0 2 4\n", ""),
+        case("stripe 2,1,3 0 6", 0, "1 3\n", ""),
+        case("stripe 2,1,3 1 6", 0, "5\n", ""),
+        case("stripe 1,1 1 0", 0, "\n", ""),
+        case("stripe 2,2 1 4", 0, "1 3\n", ""),
+        case("stripe 007 000 0003", 0, "0 1 2\n", ""),
+        case("stripe 1,0 0 5", 5, "", "error 21 ZeroWeight 1\n"),
+        case("stripe 3,1 2 5", 5, "", "error 22 NoSuchPosition 2\n"),
+        case(
+            "stripe 100000,1 0 1",
+            5,
+            "",
+            "error 16 PeriodTooLarge 100001\n",
+        ),
+        case("stripe 100000,1,0 9 1", 5, "", "error 21 ZeroWeight 2\n"),
+        case(
+            "stripe 100000,1 9 1",
+            5,
+            "",
+            "error 16 PeriodTooLarge 100001\n",
+        ),
+        case("stripe 99999,1 1 1", 0, "\n", ""),
+        case("", 2, "", "error words 0\n"),
+        case("strip 1 0 1", 2, "", "error words 0\n"),
+        case("--help", 2, "", "error words 0\n"),
+        case("stripe", 2, "", "error words 1\n"),
+        case("stripe x 0 5", 2, "", "error words 1\n"),
+        case("stripe 1,,1 0 5", 2, "", "error words 1\n"),
+        case("stripe 1, 0 5", 2, "", "error words 1\n"),
+        case("stripe 1234567890 0 5", 2, "", "error words 1\n"),
+        case("stripe 1", 2, "", "error words 2\n"),
+        case("stripe 1 +1 5", 2, "", "error words 2\n"),
+        case("stripe 6 --sequence 0,1", 2, "", "error words 2\n"),
+        case("stripe 1 0", 2, "", "error words 3\n"),
+        case("stripe 1 0 1000001", 2, "", "error words 3\n"),
+        case("stripe 1 0 -1", 2, "", "error words 3\n"),
+        case("stripe 1 0 5 6", 2, "", "error words 4\n"),
+    ];
+    for row in &rows {
+        let words = split(rt.alloc(), row.words)?;
+        let mut out = SureSink::new(rt.alloc());
+        let mut err = SureSink::new(rt.alloc());
+        let status = command(&rt, &words, &mut out, &mut err);
+        assert_eq!(rt; status, row.status, "{}", row.words);
+        assert_eq!(rt; out.taken(), row.out.as_bytes(), "{}", row.words);
+        assert_eq!(rt; err.taken(), row.err.as_bytes(), "{}", row.words);
+    }
+    Ok(())
+}
+
+/// As many weights as there may be, and one more.
+#[test]
+fn at_most_a_hundred_weights(rt: HostRuntime) -> Result<(), Fail> {
+    let mut weights = String::from_str(rt.alloc(), "1")?;
+    for (more, status, line) in [(99, 0, "0\n"), (1, 2, "error words 1\n")] {
+        for _ in 0..more {
+            weights.push_str(",1")?;
+        }
+        let mut words = split(rt.alloc(), "stripe")?;
+        words.push(weights.clone()?)?;
+        words.push(String::from_str(rt.alloc(), "0")?)?;
+        words.push(String::from_str(rt.alloc(), "1")?)?;
+        let mut out = SureSink::new(rt.alloc());
+        let mut err = SureSink::new(rt.alloc());
+        assert_eq!(rt; command(&rt, &words, &mut out, &mut err), status);
+        let taken = if status == 0 {
+            out.taken()
+        } else {
+            err.taken()
+        };
+        assert_eq!(rt; taken, line.as_bytes());
+    }
+    Ok(())
+}
+
+/// Sinks whose first call fails.
+#[test]
+fn sinks_that_fail(rt: HostRuntime) -> Result<(), Fail> {
+    for (line, status, said) in [("stripe 1 0 3", 4, "error write\n"), ("stripe", 2, "")] {
+        let words = split(rt.alloc(), line)?;
+        let mut out = MemSink::new(rt.alloc(), first_call(rt.alloc())?);
+        let mut err = MemSink::new(rt.alloc(), Numbers::of(Vec::new(rt.alloc())));
+        if status == 2 {
+            err = MemSink::new(rt.alloc(), first_call(rt.alloc())?);
+        }
+        assert_eq!(rt; command(&rt, &words, &mut out, &mut err), status);
+        assert!(rt; out.taken().is_empty());
+        assert_eq!(rt; err.taken(), said.as_bytes());
+    }
+    Ok(())
+}
+
+fn first_call(alloc: Global) -> Result<Numbers, AllocError> {
+    Ok(Numbers::of(Vec::from_slice(alloc, &[1])?))
+}

@@ -1,7 +1,23 @@
 // The words of a command line.
 ghost use Rattle.std.specs.Prelude.{
-    ◌≡◌, ◌≢◌, ◌<◌, ◌↔◌, [], ℕ, List, Some, IfOk, IfErr, IsTrue, MatchOption, codes, length, map, slice_get,
-    slice_index_or, string_bytes,
+  ◌≡◌,
+  ◌≢◌,
+  ◌<◌,
+  ◌↔◌,
+  [],
+  ℕ,
+  List,
+  Some,
+  IfOk,
+  IfErr,
+  IsTrue,
+  MatchOption,
+  codes,
+  length,
+  map,
+  slice_get,
+  slice_index_or,
+  string_bytes,
 };
 ghost use Rattle.std.specs.Borrow.{Bor};
 ghost use Rattle.std.specs.Char.{is_ascii_digit};
@@ -86,12 +102,10 @@ fn names_stripe(word: &str) -> bool
 
 // The weights that the word at a place is, if it is there and they are some.
 fn weights_at(alloc: Global, words: &[String], place: usize) -> Result<Option<Vec<u64>>, AllocError>
-    ensures {
-        IfOk result (λ found. MatchOption found
-            ((word : List ℕ) (weights : List ℕ) → slice_get (map string_bytes words.now) place ≡ Some word →
-                AreWeights word weights → ⊥)
-            (λ weights. (word : List ℕ) × (slice_get (map string_bytes words.now) place ≡ Some word) × AreWeights word weights.items))
-    }
+    ensures { IfOk result (λ found. MatchOption found
+        ((word : List ℕ) (weights : List ℕ) → slice_get (map string_bytes words.now) place ≡ Some word →
+        AreWeights word weights → ⊥)
+        (λ weights. (word : List ℕ) × (slice_get (map string_bytes words.now) place ≡ Some word) × AreWeights word weights.items)) }
 {
     match words.get(place) {
         Some(word) => read_weights(alloc, word.as_str()),
@@ -108,11 +122,9 @@ fn number_at(words: &[String], place: usize) -> Option<u32>
 
 // The weights that a word is, if it is some.
 fn read_weights(alloc: Global, word: &str) -> Result<Option<Vec<u64>>, AllocError>
-    ensures {
-        IfOk result (λ found. MatchOption found
-            ((weights : List ℕ) → AreWeights word.now weights → ⊥)
-            (λ weights. AreWeights word.now weights.items))
-    }
+    ensures { IfOk result (λ found. MatchOption found
+        ((weights : List ℕ) → AreWeights word.now weights → ⊥)
+        (λ weights. AreWeights word.now weights.items)) }
 {
     let parts = parts(alloc, word)?;
     if parts.len() > MOST_WEIGHTS {
@@ -123,11 +135,9 @@ fn read_weights(alloc: Global, word: &str) -> Result<Option<Vec<u64>>, AllocErro
 
 // The numbers that the texts are, if each is one.
 fn read_numbers(alloc: Global, texts: &[&str]) -> Result<Option<Vec<u64>>, AllocError>
-    ensures {
-        IfOk result (λ found. MatchOption found
-            ((numbers : List ℕ) → map number_of (map (λ (text : Bor (List ℕ)). text.now) texts.now) ≡ map Some numbers → ⊥)
-            (λ numbers. map number_of (map (λ (text : Bor (List ℕ)). text.now) texts.now) ≡ map Some numbers.items))
-    }
+    ensures { IfOk result (λ found. MatchOption found
+        ((numbers : List ℕ) → map number_of (map (λ (text : Bor (List ℕ)). text.now) texts.now) ≡ map Some numbers → ⊥)
+        (λ numbers. map number_of (map (λ (text : Bor (List ℕ)). text.now) texts.now) ≡ map Some numbers.items)) }
 {
     let mut numbers = Vec::new(alloc);
     for text in texts {

@@ -13,98 +13,102 @@ use Rattle.ld_stripe.specs.Striping.{DividesAll, IsGreatestDivisor, IsLowestTerm
 pub greatest_none : IsGreatestDivisor [] 0
 greatest_none = record {
   divides = All-nil (λ n. 0 ∣ n);
-  greatest = λ d all. dvd-zero d
+  greatest = λ d all. dvd-zero d;
 }
 
 -- of the numbers and one more it is that of the divisor so far and the new number
 pub greatest_more : (numbers : List ℕ) (i g h : ℕ) → i < length numbers →
-  IsGreatestDivisor (take i numbers) g → IsGcd g (get_or numbers i 0) h →
-  IsGreatestDivisor (take (i + 1) numbers) h
+    IsGreatestDivisor (take i numbers) g → IsGcd g (get_or numbers i 0) h →
+    IsGreatestDivisor (take (i + 1) numbers) h
 greatest_more numbers i g h below so_far gcd =
-  rw (take_more numbers i 0 below) (record {
-    divides = All-push (λ n. h ∣ n) (take i numbers) (get_or numbers i 0)
-      (λ k d inside. dvd_trans h gcd.0 (so_far.divides k d inside)) gcd.1;
-    greatest = λ d all. gcd.2 d (so_far.greatest d (front d all)) (last d all)
-  })
+    rw (take_more numbers i 0 below) (record {
+      divides = All-push (λ n. h ∣ n) (take i numbers) (get_or numbers i 0)
+          (λ k d inside. dvd_trans h gcd.0 (so_far.divides k d inside)) gcd.1;
+      greatest = λ d all. gcd.2 d (so_far.greatest d (front d all)) (last d all);
+    })
   where
     front : (d : ℕ) → DividesAll d (take i numbers ++ get_or numbers i 0 ∷ []) → DividesAll d (take i numbers)
     front d all = (All-pop (λ n. d ∣ n) _ (take i numbers) (Some (get_or numbers i 0)) refl all).0
+
     last : (d : ℕ) → DividesAll d (take i numbers ++ get_or numbers i 0 ∷ []) → d ∣ get_or numbers i 0
     last d all = (All-pop (λ n. d ∣ n) _ (take i numbers) (Some (get_or numbers i 0)) refl all).1
 
 -- each number is the divisor times its quotient
 multiples_of : (d : ℕ) (numbers : List ℕ) → DividesAll d numbers →
-  numbers ≡ map (λ n. d * n) (map (λ n. n / d) numbers)
+    numbers ≡ map (λ n. d * n) (map (λ n. n / d) numbers)
 multiples_of d [] all = refl
 multiples_of d (n ∷ ns) all =
-  ap₂ (λ x xs. x ∷ xs) (sym (mul-div_cancel' d (All-head (λ m. d ∣ m) n ns all)))
+    ap₂ (λ x xs. x ∷ xs) (sym (mul-div_cancel' d (All-head (λ m. d ∣ m) n ns all)))
     (multiples_of d ns (All-tail (λ m. d ∣ m) n ns all))
 
 pub lowest_terms : (numbers : List ℕ) (d : ℕ) → IsGreatestDivisor numbers d →
-  IsLowestTerms numbers (map (λ n. n / d) numbers)
+    IsLowestTerms numbers (map (λ n. n / d) numbers)
 lowest_terms numbers d greatest = record {
   divisor = d;
   is_greatest = greatest;
-  multiples = multiples_of d numbers greatest.divides
+  multiples = multiples_of d numbers greatest.divides;
 }
 
 -- the greatest common divisor of numbers above 0 is above 0
 pub divisor_positive : (numbers : List ℕ) (d : ℕ) → 0 < length numbers → All (λ n. 0 < n) numbers →
-  IsGreatestDivisor numbers d → 0 < d
+    IsGreatestDivisor numbers d → 0 < d
 divisor_positive numbers d some positive greatest =
-  elim (dec_lt 0 d) [
-    yes above ↦ above
-  | no zero ↦
-      let first = positive 0 0 some in
-      let divides : 0 ∣ get_or numbers 0 0 = subst (λ g. g ∣ get_or numbers 0 0) (omega arith) (greatest.divides 0 0 some) in
-      let none : get_or numbers 0 0 ≡ 0 = eq-zero_of_zero-dvd divides in
-      absurd (omega arith) ]
+    elim (dec_lt 0 d) [
+      | yes above ↦ above
+      | no zero ↦
+          let first = positive 0 0 some in
+          let divides : 0 ∣ get_or numbers 0 0 = subst (λ g. g ∣ get_or numbers 0 0) (omega arith) (greatest.divides 0 0 some) in
+          let none : get_or numbers 0 0 ≡ 0 = eq-zero_of_zero-dvd divides in
+          absurd (omega arith)
+    ]
 
 sum_of_multiples : (d : ℕ) (numbers : List ℕ) → sum (map (λ n. d * n) numbers) ≡ d * sum numbers
 sum_of_multiples d [] = sym (mul-zero d)
 sum_of_multiples d (n ∷ ns) =
-  let rest = sum_of_multiples d ns in
-  let left = sum_by-cons (λ x. x) (d * n) (map (λ m. d * m) ns) in
-  let right : d * sum (n ∷ ns) ≡ d * (n + sum ns) = ap (λ s. d * s) (sum_by-cons (λ x. x) n ns) in
-  let split = mul-add d n (sum ns) in
-  omega arith
+    let rest = sum_of_multiples d ns in
+    let left = sum_by-cons (λ x. x) (d * n) (map (λ m. d * m) ns) in
+    let right : d * sum (n ∷ ns) ≡ d * (n + sum ns) = ap (λ s. d * s) (sum_by-cons (λ x. x) n ns) in
+    let split = mul-add d n (sum ns) in
+    omega arith
 
 -- the sum of the numbers is the divisor times the sum in lowest terms
 sum_reduced : (numbers reduced : List ℕ) (terms : IsLowestTerms numbers reduced) →
-  sum numbers ≡ terms.divisor * sum reduced
+    sum numbers ≡ terms.divisor * sum reduced
 sum_reduced numbers reduced terms = ap sum terms.multiples ∙ sum_of_multiples terms.divisor reduced
 
 -- numbers that aren't all zero have one sum in lowest terms
 pub one_period : (numbers a b : List ℕ) → 0 < sum numbers → IsLowestTerms numbers a → IsLowestTerms numbers b →
-  sum a ≡ sum b
+    sum a ≡ sum b
 one_period numbers a b some ta tb =
-  let same : ta.divisor ≡ tb.divisor =
+    let same : ta.divisor ≡ tb.divisor =
     dvd_antisymm (tb.is_greatest.greatest ta.divisor ta.is_greatest.divides)
-      (ta.is_greatest.greatest tb.divisor tb.is_greatest.divides) in
-  let sum_a = sum_reduced numbers a ta in
-  let sum_b = sum_reduced numbers b tb in
-  let turned : tb.divisor * sum b ≡ ta.divisor * sum b = ap (λ d. d * sum b) (sym same) in
-  let positive : 0 < ta.divisor = elim (dec_lt 0 ta.divisor) [
-      yes above ↦ above
-    | no zero ↦
-        let none : ta.divisor * sum a ≡ 0 = ap (λ d. d * sum a) (let e : ta.divisor ≡ 0 = omega arith in e) ∙ zero-mul (sum a) in
-        absurd (omega arith) ] in
-  eq_of_mul-eq-mul_left ta.divisor positive (sum a) (sum b) (omega arith)
+    (ta.is_greatest.greatest tb.divisor tb.is_greatest.divides) in
+    let sum_a = sum_reduced numbers a ta in
+    let sum_b = sum_reduced numbers b tb in
+    let turned : tb.divisor * sum b ≡ ta.divisor * sum b = ap (λ d. d * sum b) (sym same) in
+    let positive : 0 < ta.divisor = elim (dec_lt 0 ta.divisor) [
+      | yes above ↦ above
+      | no zero ↦
+          let none : ta.divisor * sum a ≡ 0 = ap (λ d. d * sum a) (let e : ta.divisor ≡ 0 = omega arith in e) ∙ zero-mul (sum a) in
+          absurd (omega arith)
+    ] in
+    eq_of_mul-eq-mul_left ta.divisor positive (sum a) (sum b) (omega arith)
 
 -- and it is above zero
 pub period_positive : (numbers reduced : List ℕ) → 0 < sum numbers → IsLowestTerms numbers reduced → 0 < sum reduced
 period_positive numbers reduced some terms =
-  elim (dec_lt 0 (sum reduced)) [
-    yes above ↦ above
-  | no zero ↦
-      let whole = sum_reduced numbers reduced terms in
-      let none : terms.divisor * sum reduced ≡ 0 = ap (λ s. terms.divisor * s) (let e : sum reduced ≡ 0 = omega arith in e) ∙ mul-zero terms.divisor in
-      absurd (omega arith) ]
+    elim (dec_lt 0 (sum reduced)) [
+      | yes above ↦ above
+      | no zero ↦
+          let whole = sum_reduced numbers reduced terms in
+          let none : terms.divisor * sum reduced ≡ 0 = ap (λ s. terms.divisor * s) (let e : sum reduced ≡ 0 = omega arith in e) ∙ mul-zero terms.divisor in
+          absurd (omega arith)
+    ]
 
 -- numbers above zero have a sum above zero
 pub sum_positive : (numbers : List ℕ) → 0 < length numbers → All (λ n. 0 < n) numbers → 0 < sum numbers
 sum_positive [] some positive = absurd (omega arith)
 sum_positive (n ∷ ns) some positive =
-  let first : 0 < n = positive 0 0 (omega arith) in
-  let split = sum_by-cons (λ x. x) n ns in
-  omega arith
+    let first : 0 < n = positive 0 0 (omega arith) in
+    let split = sum_by-cons (λ x. x) n ns in
+    omega arith

@@ -8,11 +8,11 @@ use Rattle.ld_stripe.specs.declared.fault.StripeFault.TheVariants.{ZeroWeight, P
 use Rattle.ld_stripe.proofs.LowestTermsLemmas.{one_period}
 
 pub not_refused : (weights reduced : List ℕ) → first_zero weights ≡ None → 0 < sum weights →
-  IsLowestTerms weights reduced → sum reduced ≤ greatest_period →
-  (fault : StripeFault) → IsRefusal weights fault → ⊥
+    IsLowestTerms weights reduced → sum reduced ≤ greatest_period →
+    (fault : StripeFault) → IsRefusal weights fault → ⊥
 not_refused weights reduced no_zero some terms small (ZeroWeight p) refusal = cc (no_zero, refusal)
 not_refused weights reduced no_zero some terms small (PeriodTooLarge n) refusal =
-  let same = one_period weights reduced refusal.1.0 some terms refusal.1.1 in
-  let large = refusal.1.2 in
-  omega arith
+    let same = one_period weights reduced refusal.1.0 some terms refusal.1.1 in
+    let large = refusal.1.2 in
+    omega arith
 not_refused weights reduced no_zero some terms small Memory refusal = refusal

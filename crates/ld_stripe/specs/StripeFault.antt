@@ -16,9 +16,9 @@ first_zero weights = position (λ w. w == 0) weights
 abbrev pub IsRefusal : List ℕ → StripeFault → Type 0
 IsRefusal weights (ZeroWeight p) = first_zero weights ≡ Some p
 IsRefusal weights (PeriodTooLarge n) =
-  (first_zero weights ≡ None)
+    (first_zero weights ≡ None)
     × ((reduced : List ℕ)
-      × IsLowestTerms weights reduced
-      × (greatest_period < sum reduced)
-      × (n ≡ min (sum reduced) (2 ^ 64 - 1)))
+    × IsLowestTerms weights reduced
+    × (greatest_period < sum reduced)
+    × (n ≡ min (sum reduced) (2 ^ 64 - 1)))
 IsRefusal weights Memory = ⊥

@@ -21,7 +21,7 @@ pub record IsDue (weights before : List ℕ) (j : ℕ) : Type 0 where
 -- the order of positions: more weight first, and of equal weights the smaller position
 abbrev pub Precedes : List ℕ → ℕ → ℕ → Type 0
 Precedes weights j k =
-  (slice_index weights k < slice_index weights j)
+    (slice_index weights k < slice_index weights j)
     ⊎ ((slice_index weights k ≡ slice_index weights j) × (j < k))
 
 -- position j is the first in the order that is due
@@ -32,7 +32,7 @@ pub record IsFirstDue (weights before : List ℕ) (j : ℕ) : Type 0 where
 -- each of these owners is the first that was due behind those before it
 abbrev pub FollowsWeights : List ℕ → List ℕ → Type 0
 FollowsWeights weights owners =
-  (i : ℕ) → i < length owners → IsFirstDue weights (take i owners) (slice_index owners i)
+    (i : ℕ) → i < length owners → IsFirstDue weights (take i owners) (slice_index owners i)
 
 -- the owners are the striping of the weights: they follow the weights for one period, their sum
 pub record IsStriping (weights owners : List ℕ) : Type 0 where

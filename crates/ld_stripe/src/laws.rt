@@ -7,32 +7,22 @@ ghost use Rattle.ld_stripe.specs.Striping.{IsStriping, owner_at, share_at};
 pub fn one_striping()
     ensures exists { (weights : List ℕ) → 0 < sum weights → (owners : List ℕ) × IsStriping weights owners }
     ensures unique { (weights a b : List ℕ) → IsStriping weights a → IsStriping weights b → a ≡ b }
-{
-}
+{}
 
 /// Every index has one owner, which is a position with a weight.
 pub fn one_owner()
-    ensures {
-        (weights owners : List ℕ) → IsStriping weights owners → 0 < sum weights → (x : ℕ) →
-            (owner_at owners x < length weights) × (0 < slice_index weights (owner_at owners x))
-    }
-{
-}
+    ensures { (weights owners : List ℕ) → IsStriping weights owners → 0 < sum weights → (x : ℕ) →
+        (owner_at owners x < length weights) × (0 < slice_index weights (owner_at owners x)) }
+{}
 
 /// Each position owns exactly its weight of the indices of every period, wherever it begins.
 pub fn every_period()
-    ensures {
-        (weights owners : List ℕ) → IsStriping weights owners → (j v : ℕ) →
-            share_at owners j (v + sum weights) ≡ share_at owners j v + slice_index weights j
-    }
-{
-}
+    ensures { (weights owners : List ℕ) → IsStriping weights owners → (j v : ℕ) →
+        share_at owners j (v + sum weights) ≡ share_at owners j v + slice_index weights j }
+{}
 
 /// The shares of all positions sum to the number of indices.
 pub fn shares()
-    ensures {
-        (weights owners : List ℕ) → IsStriping weights owners → 0 < sum weights → (v : ℕ) →
-            sum (map (λ j. share_at owners j v) (range_with_len 0 (length weights))) ≡ v
-    }
-{
-}
+    ensures { (weights owners : List ℕ) → IsStriping weights owners → 0 < sum weights → (v : ℕ) →
+        sum (map (λ j. share_at owners j v) (range_with_len 0 (length weights))) ≡ v }
+{}

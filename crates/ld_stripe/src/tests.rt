@@ -9,7 +9,11 @@ fn owners_follow_the_weights(rt: HostRuntime) {
     let mut index = 0;
     for owner in want {
         assert_eq!(rt; stripe.owner(index), owner, "of {index}");
-        assert_eq!(rt; stripe.owner(index + 10), owner, "of {index} in the next period");
+        assert_eq!(rt;
+            stripe.owner(index + 10),
+            owner,
+            "of {index} in the next period"
+        );
         index += 1;
     }
 }

@@ -5,6 +5,6 @@ use Rattle.ld_run.proofs.words.read_number.Goals as goal
 
 pub returns : goal.returns
 returns c =
-  c.ok.ensures.value
+    c.ok.ensures.value
     ∙ parsed_number c.args.word.now c.parse.result c.parse.ensures.value.0
-        (ap is_number (sym c.as_bytes.ensures.value) ∙ sym c.is_number.ensures ∙ c.if-not-is_number.false)
+    (ap is_number (sym c.as_bytes.ensures.value) ∙ sym c.is_number.ensures ∙ c.if-not-is_number.false)

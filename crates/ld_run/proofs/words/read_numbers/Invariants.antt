@@ -5,4 +5,4 @@ use Rattle.ld_run.proofs.words.read_numbers.Given as goal
 
 abbrev pub invariant-loop-text : goal.invariant-loop-text
 invariant-loop-text l =
-  map number_of (take l.text-index (map (λ (text : Bor (List ℕ)). text.now) l.texts)) ≡ map Some l.numbers.items
+    map number_of (take l.text-index (map (λ (text : Bor (List ℕ)). text.now) l.texts)) ≡ map Some l.numbers.items

@@ -5,7 +5,7 @@ use Rattle.ld_run.proofs.words.read_words.Goals as goal
 
 pub returns-clause-asked : goal.returns-clause-asked
 returns-clause-asked c =
-  asked_for_stripe _ _ _ _
+    asked_for_stripe _ _ _ _
     (rw length-map c.if-words-gt4.false)
     (c.is_stripe.ensures.0 c.if-not-is_stripe.false)
     (rw c.in-Some.is at c.in_ok-weights.ensures)
