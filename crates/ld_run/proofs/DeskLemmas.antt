@@ -1,12 +1,11 @@
 -- The run of the desk, put together from what was read and what was said.
-use Rattle.std.proofs.Common.{◌≡◌, ◌≢◌, ◌<◌, ◌≤◌, ◌⊎◌, ◌∷◌, ◌++◌, ◌∙◌, [], ℕ, List, inl, inr, length, arith, refl, sym, subst, ap}
+use Rattle.std.proofs.Common.{◌≡◌, ◌≢◌, ◌≤◌, ◌⊎◌, ◌++◌, ◌∙◌, [], ℕ, List, inl, inr, length, arith, refl, sym, subst, ap}
 use Rattle.std.specs.Prelude.{Option, Some, None, IfSome, IsSomeAnd}
 use Rattle.std.proofs.lemmas.List.{append-nil}
 use Rattle.ld_outside.specs.SinkView.{SinkView, Took, TookFront, Rose}
-use Rattle.ld_stripe.specs.declared.fault.StripeFault.{StripeFault}
 use Rattle.ld_stripe.specs.declared.fault.StripeFault.TheVariants as fault
 use Rattle.ld_run.specs.DeskRun.{IsDeskRun, IsLine}
-use Rattle.ld_run.specs.Refusal.{HasText, IsRefused, IsStripeText, IsStripeRefusal, line_of, memory_line, status_of}
+use Rattle.ld_run.specs.Refusal.{HasText, IsRefused, IsStripeRefusal, line_of, memory_line, status_of}
 use Rattle.ld_run.specs.Saying.{IsRefusalSaid, IsTextPut, Says, Untouched, write_line}
 use Rattle.ld_run.specs.Words.{AskForStripe, IsRefusedAt}
 use Rattle.ld_run.specs.declared.refusal.Refusal.{Refusal}

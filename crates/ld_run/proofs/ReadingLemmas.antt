@@ -1,8 +1,8 @@
 -- The words have one answer.
-use Rattle.std.proofs.Common.{◌≡◌, ◌<◌, ◌≤◌, ◌+◌, ◌∷◌, [], ℕ, zero, suc, List, inl, inr, length, map, arith, ap, refl, sym, ◌∙◌, subst}
-use Rattle.std.specs.Prelude.{Some, codes, slice_index_or}
+use Rattle.std.proofs.Common.{◌≡◌, ◌<◌, ◌∷◌, [], ℕ, zero, suc, List, length, map, arith, ap, refl, sym, ◌∙◌, subst}
+use Rattle.std.specs.Prelude.{Some, codes}
 use Rattle.std.proofs.Math.Decide.{dec_lt}
-use Rattle.ld_run.specs.Words.{number_of, parts_of, AreWeights, AskForStripe, CanStand, IsRefusedAt, StandsAt}
+use Rattle.ld_run.specs.Words.{number_of, parts_of, AskForStripe, IsRefusedAt, StandsAt}
 
 -- the words of a command can stand where they are
 asked_stands : (words : List (List ℕ)) (weights : List ℕ) (position count : ℕ) →

@@ -1,5 +1,5 @@
 -- Lines for want of memory.
-use Rattle.std.proofs.Common.{◌≡◌, ◌≤◌, ◌⊎◌, ℕ, List, inl, inr, length, arith, subst, sym}
+use Rattle.std.proofs.Common.{◌≡◌, ◌⊎◌, ℕ, List, inl, inr, length, arith, subst, sym}
 use Rattle.std.specs.Prelude.{Err}
 use Rattle.ld_outside.specs.Sink.{IsPutAll}
 use Rattle.ld_outside.specs.declared.sink.SinkFault.TheVariants.{Memory}

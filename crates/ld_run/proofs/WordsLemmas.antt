@@ -1,6 +1,6 @@
 -- Numbers read from words.
 use Rattle.std.proofs.Common.{◌≡◌, ◌<◌, ◌≤◌, ◌+◌, ◌^◌, ◌∙◌, ◌++◌, ◌∷◌, [], Bor, ℕ, zero, suc, List, length, get_or, take, map, arith, refl, ap, ap₂, sym, subst, true, rules, nat_eq, Vec, Global}
-use Rattle.std.specs.Prelude.{Option, Some, None, Result, Ok, codes, MatchOption, slice_get, count_by, nat_le, ◌&&◌, if◌then◌else◌}
+use Rattle.std.specs.Prelude.{Option, Some, None, Result, MatchOption, slice_get, count_by, nat_le, ◌&&◌, if◌then◌else◌}
 use Rattle.std.specs.Result.{result_ok}
 use Rattle.std.proofs.lemmas.Bool.{and_parts, leb-true}
 use Rattle.std.specs.Char.{is_ascii_digit}

@@ -1,25 +1,8 @@
 use super::*;
 use ld_outside::{MemSink, Numbers, SureSink};
 use std::alloc::{AllocError, Global};
+use std::process::Abort;
 use std::test::Fail;
-
-/// A row of words, separated by blanks, with the status and the bytes on the two sinks.
-#[derive(Drop)]
-struct Row {
-    words: &'static str,
-    status: u8,
-    out: &'static str,
-    err: &'static str,
-}
-
-const fn case(words: &'static str, status: u8, out: &'static str, err: &'static str) -> Row {
-    Row {
-        words,
-        status,
-        out,
-        err,
-    }
-}
 
 fn split(alloc: Global, words: &str) -> Result<Vec<String>, AllocError> {
     let mut list = Vec::new(alloc);
@@ -29,58 +12,57 @@ fn split(alloc: Global, words: &str) -> Result<Vec<String>, AllocError> {
     Ok(list)
 }
 
+/// Carries out the command of these words, and compares the status and the bytes on the two sinks.
+fn check<R: AllocGlobal + Abort>(
+    rt: &R,
+    line: &str,
+    status: u8,
+    text: &str,
+    said: &str,
+) -> Result<(), AllocError> {
+    let words = split(rt.alloc(), line)?;
+    let mut out = SureSink::new(rt.alloc());
+    let mut err = SureSink::new(rt.alloc());
+    assert_eq!(rt; command(rt, &words, &mut out, &mut err), status, "{line}");
+    assert!(rt; out.taken() == text.as_bytes(), "{line}");
+    assert!(rt; err.taken() == said.as_bytes(), "{line}");
+    Ok(())
+}
+
 #[test]
 fn stripe_answers(rt: HostRuntime) -> Result<(), Fail> {
-    let rows = [
-        case("stripe 3,2,1,1,1,1,1 0 10", 0, "0 4 7\n", ""),
-        case("stripe 3,2,1,1,1,1,1 1 10", 0, "1 5\n", ""),
-        case("stripe 3,2,1,1,1,1,1 6 10", 0, "9\n", ""),
-        case("stripe 2,1,3 2 6", 0, "0 2 4\n", ""),
-        case("stripe 2,1,3 0 6", 0, "1 3\n", ""),
-        case("stripe 2,1,3 1 6", 0, "5\n", ""),
-        case("stripe 1,1 1 0", 0, "\n", ""),
-        case("stripe 2,2 1 4", 0, "1 3\n", ""),
-        case("stripe 007 000 0003", 0, "0 1 2\n", ""),
-        case("stripe 1,0 0 5", 5, "", "error 21 ZeroWeight 1\n"),
-        case("stripe 3,1 2 5", 5, "", "error 22 NoSuchPosition 2\n"),
-        case(
-            "stripe 100000,1 0 1",
-            5,
-            "",
-            "error 16 PeriodTooLarge 100001\n",
-        ),
-        case("stripe 100000,1,0 9 1", 5, "", "error 21 ZeroWeight 2\n"),
-        case(
-            "stripe 100000,1 9 1",
-            5,
-            "",
-            "error 16 PeriodTooLarge 100001\n",
-        ),
-        case("stripe 99999,1 1 1", 0, "\n", ""),
-        case("", 2, "", "error words 0\n"),
-        case("strip 1 0 1", 2, "", "error words 0\n"),
-        case("--help", 2, "", "error words 0\n"),
-        case("stripe", 2, "", "error words 1\n"),
-        case("stripe x 0 5", 2, "", "error words 1\n"),
-        case("stripe 1,,1 0 5", 2, "", "error words 1\n"),
-        case("stripe 1, 0 5", 2, "", "error words 1\n"),
-        case("stripe 1234567890 0 5", 2, "", "error words 1\n"),
-        case("stripe 1", 2, "", "error words 2\n"),
-        case("stripe 1 +1 5", 2, "", "error words 2\n"),
-        case("stripe 6 --sequence 0,1", 2, "", "error words 2\n"),
-        case("stripe 1 0", 2, "", "error words 3\n"),
-        case("stripe 1 0 1000001", 2, "", "error words 3\n"),
-        case("stripe 1 0 -1", 2, "", "error words 3\n"),
-        case("stripe 1 0 5 6", 2, "", "error words 4\n"),
+    let table = [
+        ("stripe 3,2,1,1,1,1,1 0 10", 0, "0 4 7\n", ""),
+        ("stripe 3,2,1,1,1,1,1 1 10", 0, "1 5\n", ""),
+        ("stripe 3,2,1,1,1,1,1 6 10", 0, "9\n", ""),
+        ("stripe 2,1,3 2 6", 0, "0 2 4\n", ""),
+        ("stripe 2,1,3 0 6", 0, "1 3\n", ""),
+        ("stripe 2,1,3 1 6", 0, "5\n", ""),
+        ("stripe 1,1 1 0", 0, "\n", ""),
+        ("stripe 2,2 1 4", 0, "1 3\n", ""),
+        ("stripe 007 000 0003", 0, "0 1 2\n", ""),
+        ("stripe 1,0 0 5", 5, "", "error 21 ZeroWeight 1\n"),
+        ("stripe 3,1 2 5", 5, "", "error 22 NoSuchPosition 2\n"),
+        ("stripe 100000,1,0 9 1", 5, "", "error 21 ZeroWeight 2\n"),
+        ("stripe 99999,1 1 1", 0, "\n", ""),
+        ("", 2, "", "error words 0\n"),
+        ("strip 1 0 1", 2, "", "error words 0\n"),
+        ("--help", 2, "", "error words 0\n"),
+        ("stripe", 2, "", "error words 1\n"),
+        ("stripe x 0 5", 2, "", "error words 1\n"),
+        ("stripe 1,,1 0 5", 2, "", "error words 1\n"),
+        ("stripe 1, 0 5", 2, "", "error words 1\n"),
+        ("stripe 1234567890 0 5", 2, "", "error words 1\n"),
+        ("stripe 1", 2, "", "error words 2\n"),
+        ("stripe 1 +1 5", 2, "", "error words 2\n"),
+        ("stripe 6 --sequence 0,1", 2, "", "error words 2\n"),
+        ("stripe 1 0", 2, "", "error words 3\n"),
+        ("stripe 1 0 1000001", 2, "", "error words 3\n"),
+        ("stripe 1 0 -1", 2, "", "error words 3\n"),
+        ("stripe 1 0 5 6", 2, "", "error words 4\n"),
     ];
-    for row in &rows {
-        let words = split(rt.alloc(), row.words)?;
-        let mut out = SureSink::new(rt.alloc());
-        let mut err = SureSink::new(rt.alloc());
-        let status = command(&rt, &words, &mut out, &mut err);
-        assert_eq!(rt; status, row.status, "{}", row.words);
-        assert_eq!(rt; out.taken(), row.out.as_bytes(), "{}", row.words);
-        assert_eq!(rt; err.taken(), row.err.as_bytes(), "{}", row.words);
+    for (line, status, text, said) in table {
+        check(&rt, line, status, text, said)?;
     }
     Ok(())
 }

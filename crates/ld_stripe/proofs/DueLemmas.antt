@@ -1,5 +1,5 @@
 -- Before the period ends some position is due.
-use Rattle.std.proofs.Common.{◌≡◌, ◌<◌, ◌≤◌, ◌+◌, ◌*◌, ◌⊎◌, ◌∙◌, ℕ, zero, suc, List, inl, inr, length, get_or, arith, ap, ap₂, sym}
+use Rattle.std.proofs.Common.{◌≡◌, ◌<◌, ◌≤◌, ◌*◌, ◌⊎◌, ◌∙◌, ℕ, zero, suc, List, inl, inr, length, get_or, arith, ap, ap₂, sym}
 use Rattle.std.specs.Prelude.{sum}
 use Rattle.std.proofs.Math.Decide.{dec_lt}
 use Rattle.std.proofs.Math.Nat.{mul-add, add-mul, mul-zero}

@@ -1,9 +1,8 @@
 -- The first position that is due, among those below a bound.
-use Rattle.std.proofs.Common.{◌≡◌, ◌≢◌, ◌<◌, ◌≤◌, ◌+◌, ◌*◌, ◌⊎◌, ℕ, List, inl, inr, get_or, length, arith, refl, subst, sym}
+use Rattle.std.proofs.Common.{◌≡◌, ◌≢◌, ◌<◌, ◌≤◌, ◌+◌, ℕ, List, inl, inr, get_or, length, arith, refl, subst, sym}
 use Rattle.std.proofs.Math.Decide.{dec_lt}
 use Rattle.std.proofs.lemmas.Bool.Decides.{eqb_tells}
 use Rattle.std.proofs.lemmas.List.{get_or_past}
-use Rattle.std.proofs.lemmas.Grind.{common_steps}
 use Rattle.ld_stripe.specs.Striping.{IsDue, IsFirstDue, Precedes}
 
 -- Of the positions below n, none is due where `most` is 0; else `owner`, of weight `most`, is the

@@ -7,7 +7,7 @@ use Rattle.std.proofs.lemmas.Bool.Decides.{eqb_tells}
 use Rattle.std.proofs.lemmas.List.{take-append-le, get_or_append_left, get_or-set_same, get_or-set_other, length_push}
 use Rattle.std.proofs.lemmas.Grind.{get_or_default_zero}
 use Rattle.std.proofs.lemmas.List.Sums.{count_by-le-length}
-use Rattle.ld_stripe.specs.Striping.{FollowsWeights, IsFirstDue, given}
+use Rattle.ld_stripe.specs.Striping.{FollowsWeights, IsFirstDue}
 use Rattle.ld_stripe.specs.Pattern.{AreGiven}
 use Rattle.ld_stripe.proofs.FirstDueLemmas.{in_range}
 use Rattle.ld_stripe.proofs.GivenLemmas.{given-push, one_if_same, one_if_other}

@@ -1,5 +1,5 @@
 -- Weights that are accepted have no refusal.
-use Rattle.std.proofs.Common.{◌≡◌, ◌<◌, ◌≤◌, ◌∙◌, ℕ, List, arith, sym}
+use Rattle.std.proofs.Common.{◌≡◌, ◌<◌, ◌≤◌, ℕ, List, arith}
 use Rattle.std.specs.Prelude.{None, sum}
 use Rattle.ld_stripe.specs.Striping.{IsLowestTerms}
 use Rattle.ld_stripe.specs.StripeFault.{IsRefusal, first_zero, greatest_period}

@@ -1,16 +1,16 @@
 -- The laws of striping: there is one, it gives each position its weight of every period, and the
 -- shares of all positions are the whole.
-use Rattle.std.proofs.Common.{◌≡◌, ◌≢◌, ◌<◌, ◌≤◌, ◌+◌, ◌*◌, ◌%◌, ◌∙◌, ℕ, zero, suc, List, [], ◌∷◌, ◌++◌, inl, inr, length, get_or, map, take, cond, arith, refl, ap, ap₂, sym, subst, nat_eq, add-one}
+use Rattle.std.proofs.Common.{◌≡◌, ◌<◌, ◌≤◌, ◌+◌, ◌*◌, ◌%◌, ◌∙◌, ℕ, zero, suc, List, [], ◌∷◌, ◌++◌, inl, inr, length, get_or, map, take, arith, refl, ap, ap₂, sym, subst, nat_eq, add-one}
 use Rattle.std.specs.Prelude.{sum, count_by}
 use Rattle.std.specs.List.{range_with_len}
 use Rattle.std.proofs.Math.Decide.{dec_lt}
 use Rattle.std.proofs.Math.Nat.{mod-lt, mod-eq_of_lt, add-mod_right, mul_comm, mul-le-mul_right, mul-lt-mul_of_pos_right}
-use Rattle.std.proofs.lemmas.List.{take_more, take_all, length-take-le, length_push, get_or_past, get_or_default}
+use Rattle.std.proofs.lemmas.List.{take_all, length-take-le, length_push, get_or_past}
 use Rattle.std.proofs.Math.Seq.{take-suc}
 use Rattle.std.proofs.lemmas.Bool.Decides.{eqb_tells}
-use Rattle.std.proofs.lemmas.List.Sums.{sum_by-cons, sum_by_push, sum-map}
+use Rattle.std.proofs.lemmas.List.Sums.{sum_by-cons, sum_by_push}
 use Rattle.ld_stripe.specs.Striping.{IsDue, IsFirstDue, FollowsWeights, IsStriping, given, owner_at, share_at}
-use Rattle.ld_stripe.proofs.FirstDueLemmas.{Leads, leads_none, leads_takes, leads_keeps, leads_all, one_first, in_range}
+use Rattle.ld_stripe.proofs.FirstDueLemmas.{Leads, leads_none, leads_takes, leads_keeps, leads_all, one_first}
 use Rattle.ld_stripe.proofs.GivenLemmas.{given-push, one_if, one_if_same, one_if_other, given_all, sum_from, sum_from-add, hits_once, weight_of, weights_all, same_terms}
 use Rattle.ld_stripe.proofs.DueLemmas.{due_or_not, some_due, owners_in_range}
 use Rattle.ld_stripe.proofs.PatternLemmas.{follows_more}

@@ -1,19 +1,40 @@
 use super::*;
+use std::test::Fail;
 
-/// Weights, an index and its owner, by hand.
+/// Indices of a striping with their owners, in the first period and in a later one.
 #[test]
-fn owners_follow_the_weights(rt: HostRuntime) {
-    let alloc = rt.alloc();
-    let stripe = Stripe::of_weights(alloc, &[3, 2, 1, 1, 1, 1, 1]).expect(&rt, "a striping");
-    let want = [0, 1, 2, 3, 0, 1, 4, 0, 5, 6];
-    let mut index = 0;
-    for owner in want {
+fn owners_follow_the_weights(rt: HostRuntime) -> Result<(), Fail> {
+    let stripe = Stripe::of_weights(rt.alloc(), &[3, 2, 1, 1, 1, 1, 1])?;
+    let table = [
+        (0, 0),
+        (1, 1),
+        (2, 2),
+        (3, 3),
+        (4, 0),
+        (5, 1),
+        (6, 4),
+        (7, 0),
+        (8, 5),
+        (9, 6),
+        (10, 0),
+        (17, 0),
+        (u64::MAX, 1),
+    ];
+    for (index, owner) in table {
         assert_eq!(rt; stripe.owner(index), owner, "of {index}");
-        assert_eq!(rt;
-            stripe.owner(index + 10),
-            owner,
-            "of {index} in the next period"
-        );
-        index += 1;
     }
+    Ok(())
+}
+
+/// Weights that have no striping, in the order in which it is looked at.
+#[test]
+fn weights_are_refused(rt: HostRuntime) {
+    let alloc = rt.alloc();
+    let zero = Stripe::of_weights(alloc, &[200_000, 0, 1, 0]);
+    assert!(rt; matches!(zero, Err(StripeFault::ZeroWeight(1))));
+    let long = Stripe::of_weights(alloc, &[200_000, 2]);
+    assert!(rt; matches!(long, Err(StripeFault::PeriodTooLarge(100_001))));
+    let wide = Stripe::of_weights(alloc, &[u64::MAX, 1]);
+    assert!(rt; matches!(wide, Err(StripeFault::PeriodTooLarge(u64::MAX))));
+    assert!(rt; Stripe::of_weights(alloc, &[199_998, 2]).is_ok());
 }

@@ -1,4 +1,3 @@
-use Rattle.std.proofs.Common.{subst, sym}
 use Rattle.ld_run.proofs.DeskLemmas.{text_run, refusal_run}
 use Rattle.ld_run.proofs.desk.desk_command.Goals as goal
 

@@ -1,5 +1,4 @@
-use Rattle.std.proofs.Common.{inl, inr}
-use Rattle.ld_run.proofs.SayingLemmas.{said_memory, memory_put}
+use Rattle.ld_run.proofs.SayingLemmas.{memory_put}
 use Rattle.ld_run.proofs.desk.put_text.Goals as goal
 
 pub returns-in-Err-Memory : goal.returns-in-Err-Memory

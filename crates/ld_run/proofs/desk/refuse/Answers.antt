@@ -1,4 +1,4 @@
-use Rattle.std.proofs.Common.{inl, inr}
+use Rattle.std.proofs.Common.{inr}
 use Rattle.ld_run.proofs.SayingLemmas.{said_memory}
 use Rattle.ld_run.proofs.desk.refuse.Goals as goal
 

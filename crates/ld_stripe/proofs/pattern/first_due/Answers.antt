@@ -1,5 +1,4 @@
-use Rattle.std.proofs.Common.{◌≡◌, length, arith, subst, sym}
-use Rattle.std.proofs.lemmas.Grind.{common_steps}
+use Rattle.std.proofs.Common.{arith, subst}
 use Rattle.ld_stripe.proofs.FirstDueLemmas.{Leads, leads_all, leads_takes, leads_keeps}
 use Rattle.ld_stripe.proofs.DueLemmas.{some_due, due_from_counts, counts_from_due}
 use Rattle.ld_stripe.proofs.pattern.first_due.Goals as goal

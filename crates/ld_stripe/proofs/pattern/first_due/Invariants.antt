@@ -1,4 +1,3 @@
-use Rattle.std.proofs.Common.{ℕ}
 use Rattle.ld_stripe.proofs.FirstDueLemmas.{Leads}
 use Rattle.ld_stripe.proofs.pattern.first_due.Given as goal
 
