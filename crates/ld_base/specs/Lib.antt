@@ -1,0 +1,3 @@
+pub mod History
+pub mod Stint
+pub mod Tally
