@@ -46,3 +46,6 @@ pub use stint::Stint;
 pub use tally::Tally;
 pub use text::Text;
 pub use wish::Wish;
+
+#[cfg(test)]
+mod tests;

@@ -76,3 +76,16 @@ impl Stint {
         } = self;
     }
 }
+
+#[cfg(test)]
+mod tests {
+    use super::*;
+
+    #[test]
+    fn tells_its_numbers(rt: HostRuntime) {
+        let stint = Stint::new(1, 2, 3, 4);
+        let told = (stint.scenario(), stint.user(), stint.item(), stint.until());
+        assert_eq!(rt; told, (1, 2, 3, 4));
+        stint.spend();
+    }
+}
