@@ -13,17 +13,18 @@ pub enum Outcome {
 /// What happened in a pool, as a history records it.
 ///
 /// In each variant `scenario` is the scenario's number, from 0 in byte order of the scenarios'
-/// names, `user` is a user's number, from 1, and `item` is an iteration's or an arrival's index,
-/// or the slot where the executor loops.
+/// names. `user` is a user's number, from 1. `slot` is the place, from 0, that the user takes among
+/// its scenario's users. `item` is the index, from 0, of an iteration or an arrival; it is the slot
+/// where the executor has no items and loops.
 #[derive(Debug, Drop)]
 pub enum Act {
-    /// A scenario took a free user for a slot.
+    /// A scenario took a free user.
     Take {
         scenario: u16,
         user: u32,
         slot: u32,
     },
-    /// A scenario took a user for a slot that was made for it.
+    /// A user was made, and a scenario took it.
     Grow {
         scenario: u16,
         user: u32,
@@ -37,17 +38,18 @@ pub enum Act {
         item: u64,
         until: u64,
     },
-    /// An item was given up, since no user could play it.
+    /// An item was given up: an arrival that no user could play, or an iteration that was left at
+    /// its scenario's end.
     Drop {
         scenario: u16,
         item: u64,
     },
-    /// An arrival came due only once its scenario had ended.
+    /// An arrival was still waiting at its scenario's end.
     Late {
         scenario: u16,
         item: u64,
     },
-    /// A user ended an iteration, which measured the tally.
+    /// A user's iteration ended, with what it measured.
     Return {
         scenario: u16,
         user: u32,
@@ -55,16 +57,16 @@ pub enum Act {
         outcome: Outcome,
         tally: Tally,
     },
-    /// A scenario gave a user back.
+    /// A scenario let an idle user go, which is free again.
     Release {
         scenario: u16,
         user: u32,
     },
-    /// A scenario's grace ended behind a commanded stop.
+    /// A scenario was halted, since its grace behind a commanded stop is over.
     Stop {
         scenario: u16,
     },
-    /// A scenario ended: nothing of it is left to do.
+    /// A scenario was closed: it holds no user, and nothing of it is left to do.
     Close {
         scenario: u16,
     },

@@ -1,4 +1,4 @@
-ghost use Rattle.std.specs.Prelude.{◌≡◌, ◌<◌, ◌++◌, ◌∷◌, [], IfOk, length, slice_get};
+ghost use Rattle.std.specs.Prelude.{◌≡◌, ◌<◌, ◌≤◌, ◌++◌, ◌∷◌, [], IfOk, length, slice_get};
 ghost use Rattle.std.specs.Option.{option_copied};
 
 use crate::entry::Entry;
@@ -46,7 +46,8 @@ impl History {
 
     /// How many entries the history holds.
     pub fn len(&self) -> u32
-        ensures { result ≡ length self.now.entries }
+        ensures count { result ≡ length self.now.entries }
+        ensures within { result ≤ self.now.room }
     {
         self.entries.len() as u32
     }

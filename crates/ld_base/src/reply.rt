@@ -12,17 +12,19 @@ pub enum Room {
 /// What the pool answers to an ask.
 ///
 /// In each variant `scenario` is the scenario's number, from 0 in byte order of the scenarios'
-/// names, and `user` is a user's number, from 1. A reply can hold a stint, so it can't be dropped.
+/// names, `user` is a user's number, from 1, and `item` is an item's index, from 0. A reply can hold
+/// a stint, so it can't be dropped.
 #[derive(Debug)]
 pub enum Reply {
     /// An iteration began, and the thread is to play it.
     Run(Stint),
-    /// An item was given up, since no user could play it.
+    /// An item was given up: an arrival that no user could play, or an iteration that was left at
+    /// its scenario's end.
     Dropped {
         scenario: u16,
         item: u64,
     },
-    /// An arrival came due only once its scenario had ended.
+    /// An arrival was still waiting at its scenario's end.
     Late {
         scenario: u16,
         item: u64,
@@ -32,16 +34,16 @@ pub enum Reply {
         scenario: u16,
         user: u32,
     },
-    /// A scenario gave a user back.
+    /// A scenario let an idle user go.
     Released {
         scenario: u16,
         user: u32,
     },
-    /// A scenario's grace ended behind a commanded stop.
+    /// A scenario was halted, since its grace behind a commanded stop is over.
     Stopped {
         scenario: u16,
     },
-    /// A scenario ended.
+    /// A scenario was closed.
     Closed {
         scenario: u16,
     },

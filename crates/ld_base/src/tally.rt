@@ -1,4 +1,4 @@
-ghost use Rattle.std.specs.Prelude.{◌≡◌, ◌<◌, ◌++◌, ◌∷◌, [], IfOk, length, slice_get};
+ghost use Rattle.std.specs.Prelude.{◌≡◌, ◌<◌, ◌≤◌, ◌++◌, ◌∷◌, [], IfOk, length, slice_get};
 
 use crate::fault::BaseFault;
 use crate::sample::Sample;
@@ -56,7 +56,8 @@ impl Tally {
 
     /// How many samples the tally holds.
     pub fn len(&self) -> u32
-        ensures { result ≡ length self.now.samples }
+        ensures count { result ≡ length self.now.samples }
+        ensures within { result ≤ self.now.room }
     {
         self.samples.len() as u32
     }

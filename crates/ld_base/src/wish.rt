@@ -1,12 +1,13 @@
 /// What a scenario would do next, as its executor tells the pool.
 ///
-/// `user` is a user's number, from 1; `slot` and `item` count from 0; `until` and `due` are
-/// moments, in nanoseconds from the run's start.
+/// `user` is a user's number, from 1, and `slot` and `item` count from 0. `until` is the moment at
+/// which the iteration is to have ended, and `due` the one at which the item is due; both are in
+/// nanoseconds from the run's start.
 #[derive(Clone, Copy, Debug, PartialEq, Eq)]
 pub enum Wish {
     /// Nothing is to be done at this reading.
     Nothing,
-    /// To give an idle user back.
+    /// To let an idle user go.
     Release {
         user: u32,
     },
@@ -21,7 +22,7 @@ pub enum Wish {
         until: u64,
         due: u64,
     },
-    /// To start an item on a user that is made or taken for it.
+    /// To start a due arrival on one more user, where no user that the scenario holds is idle.
     More {
         item: u64,
         until: u64,
@@ -33,11 +34,11 @@ pub enum Wish {
         item: u64,
         due: u64,
     },
-    /// To record that an item came due behind the scenario's end.
+    /// To record that an arrival was still waiting at the scenario's end.
     Late {
         item: u64,
         due: u64,
     },
-    /// To end the scenario.
+    /// To close the scenario.
     Close,
 }
