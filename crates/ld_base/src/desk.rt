@@ -21,15 +21,15 @@ pub trait Desk {
     fn ask(&mut self, ask: Ask, reading: u64) -> Reply
         requires { MayAsk (seen self.old) ask }
         ensures reply { IsReplyTo (scenario_count (seen self.old)) ask result }
-        ensures out { MovesStints (seen self.old).out ask result (seen self.new).out }
-        ensures told { TellsTurn (seen self.old).told (turn_of ask reading result) (seen self.new).told }
+        ensures out { MovesStints (seen self.old).out (seen self.new).out ask result }
+        ensures told { TellsTurn (seen self.old).told (seen self.new).told (turn_of ask reading result) }
         ensures test { KeepsTest (seen self.old) (seen self.new) };
 
     /// The level at which a word of the board is found. The words count from 0.
     fn glance(&mut self, word: u16) -> u64
         requires { word < (seen self.old).words }
         ensures out { (seen self.new).out ≡ (seen self.old).out }
-        ensures told { TellsUse (seen self.old).told (Glanced word result) (seen self.new).told }
+        ensures told { TellsUse (seen self.old).told (seen self.new).told (Glanced word result) }
         ensures test { KeepsTest (seen self.old) (seen self.new) };
 
     /// Raises a word of the board to a level, and leaves it where it stands higher. The words
@@ -37,7 +37,7 @@ pub trait Desk {
     fn raise(&mut self, word: u16, level: u64)
         requires { word < (seen self.old).words }
         ensures out { (seen self.new).out ≡ (seen self.old).out }
-        ensures told { TellsUse (seen self.old).told (Raised word level) (seen self.new).told }
+        ensures told { TellsUse (seen self.old).told (seen self.new).told (Raised word level) }
         ensures test { KeepsTest (seen self.old) (seen self.new) };
 }
 

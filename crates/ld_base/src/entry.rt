@@ -3,7 +3,7 @@ use crate::act::Act;
 /// One line of a pool's history.
 #[derive(Debug, Drop)]
 pub struct Entry {
-    /// The entry's place in the history, from 0.
+    /// The entry's place in the history, from 1.
     pub turn: u64,
     /// The number of the thread whose turn it was, from 0.
     pub thread: u32,

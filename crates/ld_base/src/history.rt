@@ -14,14 +14,15 @@ pub struct History {
 }
 
 impl Model for History {
-    ghost use Rattle.std.specs.Prelude.{◌≤◌, ◌<◌, ◌^◌, vec_len, vec_capacity};
+    ghost use Rattle.std.specs.Prelude.{vec_len, vec_capacity};
     ghost use Rattle.ld_base.specs.History.{HistoryView};
+    ghost use Rattle.ld_base.specs.Reserved.{IsReserved};
 
     ghost Value = { HistoryView };
 
     ghost view = { λ h. record { entries = h.entries.items; room = h.room } };
 
-    ghost invariant = { λ h. (vec_len h.entries ≤ h.room) × (h.room ≤ vec_capacity h.entries) × (h.room < 2 ^ 32) };
+    ghost invariant = { λ h. IsReserved (vec_len h.entries) h.room (vec_capacity h.entries) };
 }
 
 impl History {

@@ -12,8 +12,8 @@ pub enum Room {
 /// What the pool answers to an ask.
 ///
 /// In each variant `scenario` is the scenario's number, from 0 in byte order of the scenarios'
-/// names, `user` is a user's number, from 1, and `item` is an item's index, from 0. A reply can hold
-/// a stint, so it can't be dropped.
+/// names, `user` is a user's number, from 1, and `item` is an item's index, from 0. A reply can
+/// hold a stint, so it can't be dropped.
 #[derive(Debug)]
 pub enum Reply {
     /// An iteration began, and the thread is to play it.
@@ -63,11 +63,12 @@ pub enum Reply {
         vus: u32,
         vus_max: u32,
     },
-    /// Nothing is to be done before this moment, in nanoseconds from the run's start.
+    /// Nothing is to be done now. The thread is to ask again at this moment, in nanoseconds from
+    /// the run's start.
     Wait(u64),
     /// Every scenario is closed.
     Over,
-    /// The act would need `needed` places where the limit is `limit`.
+    /// Nothing was done, since the act needs `needed` places in all where the limit is `limit`.
     Full {
         room: Room,
         needed: u64,

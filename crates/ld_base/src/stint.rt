@@ -18,7 +18,9 @@ impl Model for Stint {
 
     ghost Value = { StintView };
 
-    ghost view = { λ s. record { scenario = s.scenario; user = s.user; item = s.item; until = s.until } };
+    ghost use Rattle.ld_base.specs.Stint.{stint_of};
+
+    ghost view = { λ s. stint_of s.scenario s.user s.item s.until };
 }
 
 impl Stint {

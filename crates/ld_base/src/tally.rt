@@ -14,14 +14,15 @@ pub struct Tally {
 }
 
 impl Model for Tally {
-    ghost use Rattle.std.specs.Prelude.{◌≤◌, ◌<◌, ◌^◌, vec_len, vec_capacity};
+    ghost use Rattle.std.specs.Prelude.{vec_len, vec_capacity};
+    ghost use Rattle.ld_base.specs.Reserved.{IsReserved};
     ghost use Rattle.ld_base.specs.Tally.{TallyView};
 
     ghost Value = { TallyView };
 
     ghost view = { λ t. record { samples = t.samples.items; room = t.room } };
 
-    ghost invariant = { λ t. (vec_len t.samples ≤ t.room) × (t.room ≤ vec_capacity t.samples) × (t.room < 2 ^ 32) };
+    ghost invariant = { λ t. IsReserved (vec_len t.samples) t.room (vec_capacity t.samples) };
 }
 
 impl Tally {

@@ -91,7 +91,8 @@ struct OverDesk {
 impl OverDesk {
     /// Keeps a turn, or tells nothing from now on.
     fn keep_turn(&mut self, turn: KeptTurn)
-        ensures kept { IsTrue self.new.tells → IsTrue self.old.tells × (self.new.turns.items ≡ self.old.turns.items ++ turn ∷ []) }
+        ensures told { IsTrue self.new.tells → IsTrue self.old.tells }
+        ensures kept { IsTrue self.new.tells → self.new.turns.items ≡ self.old.turns.items ++ turn ∷ [] }
         ensures uses { self.new.uses.items ≡ self.old.uses.items }
     {
         if self.turns.len() < self.turns.capacity() {
@@ -103,7 +104,8 @@ impl OverDesk {
 
     /// Keeps a use of the board, or tells nothing from now on.
     fn keep_use(&mut self, done: KeptUse)
-        ensures kept { IsTrue self.new.tells → IsTrue self.old.tells × (self.new.uses.items ≡ self.old.uses.items ++ done ∷ []) }
+        ensures told { IsTrue self.new.tells → IsTrue self.old.tells }
+        ensures kept { IsTrue self.new.tells → self.new.uses.items ≡ self.old.uses.items ++ done ∷ [] }
         ensures turns { self.new.turns.items ≡ self.old.turns.items }
     {
         if self.uses.len() < self.uses.capacity() {
@@ -134,7 +136,10 @@ impl Desk for OverDesk {
               | Looked reading ↦ turn_of Look reading Over
               | Commanded command reading ↦ turn_of (Control command) reading Denied
             ]) d.turns.items;
-            uses = map (elim [ Found word level ↦ Glanced word level | Lifted word level ↦ Raised word level ]) d.uses.items;
+            uses = map (elim [
+              | Found word level ↦ Glanced word level
+              | Lifted word level ↦ Raised word level
+            ]) d.uses.items;
           })
           else None
           );
