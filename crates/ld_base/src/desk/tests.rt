@@ -1,17 +1,19 @@
-ghost use Rattle.std.specs.Prelude.{◌≡◌, ◌<◌, ◌++◌, ◌∷◌, [], if◌then◌else◌, IfSome, IsSomeAnd, IsTrue, None, Some, map};
-ghost use Rattle.ld_base.specs.Desk.{Glanced, Raised};
+ghost use Rattle.std.specs.Prelude.{◌≡◌, ℕ, true, false, ◌<◌, ◌++◌, ◌∷◌, [], if◌then◌else◌, IfSome, IsSomeAnd, IsTrue, None, Some, map};
+ghost use Rattle.ld_base.specs.Desk.{FitsScript, Glanced, Raised, scenario_count};
 ghost use Rattle.ld_base.specs.Stint.{stint_of};
 
 use crate::ask::Ask;
 use crate::command::Command;
 use crate::desk::Desk;
+use crate::fault::BaseFault;
 use crate::reply::Reply;
+use crate::sample::Sample;
 use crate::stint::Stint;
 use crate::tally::Tally;
-use std::alloc::{AllocError, Global};
+use std::alloc::AllocError;
 
-/// A desk of one scenario without samples and a board of two words. It gives one stint at a time,
-/// and tells nothing.
+/// A desk of one scenario with room for two samples, a name with two checks and a counter's name,
+/// and a board of two words. It gives one stint at a time, and tells nothing.
 #[derive(Drop)]
 struct OneStintDesk {
     words: [u64; 2],
@@ -21,8 +23,8 @@ struct OneStintDesk {
 impl Desk for OneStintDesk {
     ghost seen = { λ d. record {
       words = 2;
-      names = [];
-      rooms = 0 ∷ [];
+      names = record { counter = false; checks = 2 } ∷ record { counter = true; checks = 0 } ∷ [];
+      rooms = 2 ∷ [];
       out = (if d.is_out then stint_of 0 1 0 100 ∷ [] else []);
       told = None;
     } };
@@ -184,10 +186,12 @@ impl Desk for OverDesk {
     }
 }
 
-/// Takes one turn at a desk, and hands the stint that it may give back at once. Says whether there
-/// was one.
-fn plays_one<D: Desk>(desk: &mut D, alloc: Global) -> bool
-    requires { (D.seen desk.old).out ≡ [] }
+/// Takes one turn at a desk, and hands the stint that it may give back at once, with a tally that
+/// fits each of its scripts. Says whether there was one.
+fn plays_one<D: Desk>(desk: &mut D, tally: Tally) -> bool
+    requires idle { (D.seen desk.old).out ≡ [] }
+    requires fits { (scenario : ℕ) → scenario < scenario_count (D.seen desk.old) →
+        FitsScript (D.seen desk.old) scenario tally }
     ensures { (D.seen desk.new).out ≡ [] }
 {
     match desk.ask(Ask::Act, 5) {
@@ -196,7 +200,7 @@ fn plays_one<D: Desk>(desk: &mut D, alloc: Global) -> bool
                 Ask::Return {
                     stint,
                     finished: true,
-                    tally: Tally::empty(alloc),
+                    tally,
                 },
                 9,
             );
@@ -256,16 +260,36 @@ fn raises_first<D: Desk>(desk: &mut D, level: u64) -> u64
 }
 
 #[test]
-fn a_stint_goes_out_and_comes_back(rt: HostRuntime) {
+fn a_stint_goes_out_and_comes_back(rt: HostRuntime) -> Result<(), BaseFault> {
     let mut desk = OneStintDesk {
         words: [0, 3],
         is_out: false,
     };
-    assert!(rt; plays_one(&mut desk, rt.alloc()));
+    let mut tally = Tally::new(rt.alloc(), 2)?;
+    tally.push(Sample {
+        name: 0,
+        status: 200,
+        span: 7,
+        sent: 59,
+        received: 80,
+        failed: false,
+        check_bits: 3,
+    });
+    tally.push(Sample {
+        name: 1,
+        status: 0,
+        span: 0,
+        sent: 12,
+        received: 0,
+        failed: false,
+        check_bits: 0,
+    });
+    assert!(rt; plays_one(&mut desk, tally));
     desk.raise(1, 2);
     assert_eq!(rt; desk.glance(1), 3);
     desk.raise(0, 2);
     assert_eq!(rt; desk.glance(0), 2);
+    Ok(())
 }
 
 #[test]
@@ -277,7 +301,7 @@ fn a_desk_tells_its_past(rt: HostRuntime) -> Result<(), AllocError> {
         uses: Vec::with_capacity(alloc, 2)?,
         tells: true,
     };
-    assert!(rt; !plays_one(&mut desk, alloc));
+    assert!(rt; !plays_one(&mut desk, Tally::empty(alloc)));
     assert_eq!(rt; raises_first(&mut desk, 7), 7);
     assert!(rt; desk.tells);
     assert!(rt; matches!(desk.turns.as_slice(), [KeptTurn::Acted(5)]));
