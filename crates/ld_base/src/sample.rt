@@ -5,7 +5,7 @@
 pub struct Sample {
     /// The position of the sample's name in the test's list of names, from 0.
     pub name: u16,
-    /// The response's status code (RFC 9110, section 15), or 0 where there was no response.
+    /// The response's status code (RFC 9110, section 15), or 0 where no response's head was read.
     pub status: u16,
     /// Nanoseconds from the request's first reading of the clock to its last.
     pub span: u64,

@@ -1,6 +1,7 @@
 ghost use Rattle.std.specs.Prelude.{◌≡◌, ℕ, ◌↔◌, List, [], ◌++◌, IsNone, option_to_list};
 
-/// The items of a scenario that this instance owns, each with its moment, in order.
+/// The items of a scenario that one instance of a segmented test owns, each with its moment, in
+/// order.
 ///
 /// A source is seen as the pairs that are left.
 pub trait IndexSource {
