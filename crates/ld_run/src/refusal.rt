@@ -1,4 +1,5 @@
 use crate::text::line_with;
+use ld_base::BaseFault;
 use ld_stripe::StripeFault;
 use std::alloc::{AllocError, Global};
 use thiserror::Error;
@@ -36,7 +37,7 @@ impl Refusal {
     }
 
     /// The line that says the refusal on standard error.
-    pub fn line(&self, alloc: Global) -> Result<Vec<u8>, AllocError>
+    pub fn line(&self, alloc: Global) -> Result<Vec<u8>, BaseFault>
         ensures { IfOk result (λ line. line.items ≡ line_of self.now) }
     {
         match self {
@@ -51,7 +52,7 @@ impl Refusal {
                 line_with(alloc, b"error 22 NoSuchPosition ", *position as u64)
             }
             Refusal::Stripe(StripeFault::Memory) | Refusal::Memory => {
-                Vec::from_slice(alloc, b"error memory\n")
+                Ok(Vec::from_slice(alloc, b"error memory\n")?)
             }
         }
     }
@@ -64,6 +65,17 @@ impl From<AllocError> for Refusal {
     ghost from_gives = { λ _ refusal. refusal ≡ Memory };
 
     fn from(_error: AllocError) -> Refusal {
+        Refusal::Memory
+    }
+}
+
+impl From<BaseFault> for Refusal {
+    ghost use Rattle.std.specs.Prelude.{◌≡◌};
+    ghost use Rattle.ld_run.specs.declared.refusal.Refusal.TheVariants.{Memory};
+
+    ghost from_gives = { λ _ refusal. refusal ≡ Memory };
+
+    fn from(_fault: BaseFault) -> Refusal {
         Refusal::Memory
     }
 }

@@ -1,0 +1,6 @@
+pub mod Desk
+pub mod History
+pub mod Reply
+pub mod Reserved
+pub mod Stint
+pub mod Tally
