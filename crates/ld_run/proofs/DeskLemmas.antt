@@ -1,11 +1,19 @@
 -- The run of the desk, put together from what was read and what was said.
-use Rattle.std.proofs.Common.{◌≡◌, ◌≢◌, ◌≤◌, ◌⊎◌, ◌++◌, ◌∙◌, [], ℕ, List, inl, inr, length, arith, refl, sym, subst, ap}
-use Rattle.std.specs.Prelude.{Option, Some, None, IfSome, IsSomeAnd}
+use Rattle.std.proofs.Common.{◌≡◌, ◌≢◌, ◌<◌, ◌≤◌, ◌⊎◌, ◌∷◌, ◌++◌, ◌∙◌, [], ℕ, List, inl, inr, length, arith, refl, sym, subst, ap, ap₂, suc, cond}
+use Rattle.std.proofs.lemmas.Bool.{lt-ltb}
+use Rattle.std.specs.Prelude.{Option, Some, None, IfSome, IsSomeAnd, sum}
 use Rattle.std.proofs.lemmas.List.{append-nil}
 use Rattle.ld_outside.specs.SinkView.{SinkView, Took, TookFront, Rose}
 use Rattle.ld_stripe.specs.declared.fault.StripeFault.TheVariants as fault
+use Rattle.std.proofs.Math.Decide.{dec_lt}
+use Rattle.std.proofs.lemmas.List.Sums.{sum_by-cons}
+use Rattle.ld_stripe.specs.StripeFault as stripe
+use Rattle.ld_stripe.specs.Striping.{IsStriping, IsStripingOf}
+use Rattle.ld_stripe.proofs.LowestTermsLemmas.{one_form}
+use Rattle.ld_stripe.proofs.StripingLaws.{striping_unique}
+use Rattle.ld_run.specs.Indices.{numbers_line, owned_below}
 use Rattle.ld_run.specs.DeskRun.{IsDeskRun, IsLine}
-use Rattle.ld_run.specs.Refusal.{HasText, IsRefused, IsStripeRefusal, line_of, memory_line, status_of}
+use Rattle.ld_run.specs.Refusal.{HasText, IsAccepted, IsRefused, IsStripeRefusal, line_of, memory_line, status_of}
 use Rattle.ld_run.specs.Saying.{IsRefusalSaid, IsTextPut, Says, Untouched, write_line}
 use Rattle.ld_run.specs.Words.{AskForStripe, IsRefusedAt}
 use Rattle.ld_run.specs.declared.refusal.Refusal.{Refusal}
@@ -187,3 +195,32 @@ refusal_run words refusal status out err err' refused said = run (told_or_memory
         | inr front ↦ front
       ],
     ) said.count
+
+-- weights with a first zero have no text
+sum_above_zero : (weights : List ℕ) (position : ℕ) → position < length weights → IsAccepted weights → 0 < sum weights
+sum_above_zero [] position inside accepted = absurd (omega arith)
+sum_above_zero (w ∷ ws) position inside accepted =
+    let split = sum_by-cons (λ x. x) w ws in
+    elim (dec_lt 0 w) [
+      | yes above ↦ omega arith
+      | no zero ↦
+          let none : w ≡ 0 = omega arith in
+          absurd (accepted (fault.ZeroWeight 0) (subst (λ v. stripe.first_zero (v ∷ ws) ≡ Some 0) (sym none)
+          (ap (λ b. cond b (Some 0) None) (lt-ltb 0 (suc (length ws)) (omega arith)))))
+    ]
+
+-- words ask for one text
+pub one_text : (words : List (List ℕ)) (a b : List ℕ) → HasText words a → HasText words b → a ≡ b
+one_text words a b ha hb =
+    let same = asked_once words ha.0 hb.0 ha.1 hb.1 ha.2 hb.2 ha.3 hb.3 in
+    let text_a = ha.4 in
+    let text_b = hb.4 in
+    let striped_b : IsStripingOf ha.0 text_b.striping = subst (λ weights. IsStripingOf weights text_b.striping) (sym same.0) text_b.striped in
+    let some = sum_above_zero ha.0 ha.1 text_a.inside text_a.accepted in
+    let form = one_form ha.0 text_a.striping.weights text_b.striping.weights some text_a.striped.lowest_terms striped_b.lowest_terms in
+    let owners = striping_unique text_b.striping.weights text_a.striping.owners text_b.striping.owners
+    (subst (λ weights. IsStriping weights text_a.striping.owners) form text_a.striped.striping) striped_b.striping in
+    text_a.text_is
+    ∙ ap (λ os. numbers_line (owned_below os ha.1 ha.2)) owners
+    ∙ ap₂ (λ p n. numbers_line (owned_below text_b.striping.owners p n)) same.1 same.2
+    ∙ sym text_b.text_is

@@ -3,11 +3,13 @@
 
 mod desk;
 mod indices;
+mod laws;
 mod refusal;
 mod text;
 mod words;
 
 pub use desk::{command, desk_command};
+pub use laws::one_answer;
 pub use refusal::Refusal;
 
 #[cfg(test)]

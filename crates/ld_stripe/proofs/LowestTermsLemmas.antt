@@ -76,25 +76,32 @@ sum_reduced : (numbers reduced : List ℕ) (terms : IsLowestTerms numbers reduce
     sum numbers ≡ terms.divisor * sum reduced
 sum_reduced numbers reduced terms = ap sum terms.multiples ∙ sum_of_multiples terms.divisor reduced
 
--- numbers that aren't all zero have one sum in lowest terms
-pub one_period : (numbers a b : List ℕ) → 0 < sum numbers → IsLowestTerms numbers a → IsLowestTerms numbers b →
-    sum a ≡ sum b
-one_period numbers a b some ta tb =
+cancel : (d : ℕ) → 0 < d → (a b : List ℕ) → map (λ n. d * n) a ≡ map (λ n. d * n) b → a ≡ b
+cancel d positive [] [] e = refl
+cancel d positive [] (y ∷ ys) e = cc
+cancel d positive (x ∷ xs) [] e = cc
+cancel d positive (x ∷ xs) (y ∷ ys) e =
+    let multiples : d * x ≡ d * y = cc in
+    let rest : map (λ n. d * n) xs ≡ map (λ n. d * n) ys = cc in
+    ap₂ (λ n ns. n ∷ ns) (eq_of_mul-eq-mul_left d positive x y multiples) (cancel d positive xs ys rest)
+
+-- numbers that aren't all zero have one form in lowest terms
+pub one_form : (numbers a b : List ℕ) → 0 < sum numbers → IsLowestTerms numbers a → IsLowestTerms numbers b → a ≡ b
+one_form numbers a b some ta tb =
     let same : ta.divisor ≡ tb.divisor =
     dvd_antisymm (tb.is_greatest.greatest ta.divisor ta.is_greatest.divides)
     (ta.is_greatest.greatest tb.divisor tb.is_greatest.divides) in
     let sum_a = sum_reduced numbers a ta in
-    let sum_b = sum_reduced numbers b tb in
-    let turned : tb.divisor * sum b ≡ ta.divisor * sum b = ap (λ d. d * sum b) (sym same) in
     let positive : 0 < ta.divisor = elim (dec_lt 0 ta.divisor) [
       | yes above ↦ above
       | no zero ↦
           let none : ta.divisor * sum a ≡ 0 = ap (λ d. d * sum a) (let e : ta.divisor ≡ 0 = omega arith in e) ∙ zero-mul (sum a) in
           absurd (omega arith)
     ] in
-    eq_of_mul-eq-mul_left ta.divisor positive (sum a) (sum b) (omega arith)
+    cancel ta.divisor positive a b
+    (sym ta.multiples ∙ tb.multiples ∙ ap (λ d. map (λ n. d * n) b) (sym same))
 
--- and it is above zero
+-- the sum in lowest terms of numbers that aren't all zero is above zero
 pub period_positive : (numbers reduced : List ℕ) → 0 < sum numbers → IsLowestTerms numbers reduced → 0 < sum reduced
 period_positive numbers reduced some terms =
     elim (dec_lt 0 (sum reduced)) [

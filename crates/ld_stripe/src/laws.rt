@@ -1,7 +1,12 @@
 // The laws of striping, over all weights.
 ghost use Rattle.std.specs.Prelude.{◌≡◌, ◌+◌, ◌<◌, ℕ, List, length, map, sum, slice_index};
 ghost use Rattle.std.specs.List.{range_with_len};
-ghost use Rattle.ld_stripe.specs.Striping.{IsStriping, owner_at, share_at};
+ghost use Rattle.ld_stripe.specs.Striping.{IsLowestTerms, IsStriping, owner_at, share_at};
+
+/// Weights that are not all zero have at most one form in lowest terms.
+pub fn one_form()
+    ensures { (weights a b : List ℕ) → 0 < sum weights → IsLowestTerms weights a → IsLowestTerms weights b → a ≡ b }
+{}
 
 /// Weights that are not all zero have exactly one striping.
 pub fn one_striping()

@@ -8,7 +8,7 @@ mod stripe;
 mod weights;
 
 pub use fault::StripeFault;
-pub use laws::{every_period, one_owner, one_striping, shares};
+pub use laws::{every_period, one_form, one_owner, one_striping, shares};
 pub use stripe::Stripe;
 
 #[cfg(test)]
