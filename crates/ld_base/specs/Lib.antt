@@ -1,0 +1,5 @@
+pub mod Desk
+pub mod History
+pub mod Reply
+pub mod Stint
+pub mod Tally

@@ -1,0 +1,31 @@
+ghost use Rattle.std.specs.Prelude.{◌≡◌, ◌++◌, OnOk, OnErr, decimal};
+
+use crate::fault::BaseFault;
+use itoa::Buffer;
+
+/// Appends the decimal text of a number, without sign or leading zeros.
+///
+/// Fails where the allocator gives no memory for it; `into` is then as before.
+pub fn put_number(into: &mut Vec<u8>, number: u64) -> Result<(), BaseFault>
+    ensures ok { OnOk result (into.new.items ≡ into.old.items ++ decimal number) }
+    ensures err { OnErr result (into.new.items ≡ into.old.items) }
+{
+    let mut buffer = Buffer::new();
+    into.extend_from_slice(buffer.format(number).as_bytes())
+        .map_err(|_| BaseFault::Memory)
+}
+
+#[cfg(test)]
+mod tests {
+    use super::*;
+
+    #[test]
+    fn prints_decimals(rt: HostRuntime) -> Result<(), BaseFault> {
+        for (number, want) in [(0, "x0"), (10, "x10"), (u64::MAX, "x18446744073709551615")] {
+            let mut text = Vec::from_slice(rt.alloc(), b"x").map_err(|_| BaseFault::Memory)?;
+            put_number(&mut text, number)?;
+            assert_eq!(rt; text.as_slice(), want.as_bytes());
+        }
+        Ok(())
+    }
+}

@@ -1,0 +1,104 @@
+ghost use Rattle.std.specs.Prelude.{◌≡◌, ◌<◌, ◌≤◌, ◌++◌, ◌∷◌, [], IfOk, length, slice_get};
+
+use crate::fault::BaseFault;
+use crate::sample::Sample;
+use std::alloc::Global;
+use std::marker::Model;
+
+/// The samples of one iteration, in the order in which they were taken, with the room that was
+/// reserved for them.
+#[derive(Debug, Drop)]
+pub struct Tally {
+    samples: Vec<Sample>,
+    room: u32,
+}
+
+impl Model for Tally {
+    ghost use Rattle.std.specs.Prelude.{◌≤◌, ◌<◌, ◌^◌, vec_len, vec_capacity};
+    ghost use Rattle.ld_base.specs.Tally.{TallyView};
+
+    ghost Value = { TallyView };
+
+    ghost view = { λ t. record { samples = t.samples.items; room = t.room } };
+
+    ghost invariant = { λ t. (vec_len t.samples ≤ t.room) × (t.room ≤ vec_capacity t.samples) × (t.room < 2 ^ 32) };
+}
+
+impl Tally {
+    /// A tally without samples, with room for `room` of them.
+    ///
+    /// Fails where the allocator gives no memory for them.
+    pub fn new(alloc: Global, room: u32) -> Result<Tally, BaseFault>
+        ensures { IfOk result (λ tally. tally ≡ record { samples = []; room = room }) }
+    {
+        let samples = Vec::with_capacity(alloc, room as usize).map_err(|_| BaseFault::Memory)?;
+        Ok(Tally { samples, room })
+    }
+
+    /// A tally without samples and without room, which takes no memory.
+    pub fn empty(alloc: Global) -> Tally
+        ensures { result ≡ record { samples = []; room = 0 } }
+    {
+        Tally {
+            samples: Vec::new(alloc),
+            room: 0,
+        }
+    }
+
+    /// Puts a sample behind the others, in the room that was reserved.
+    pub fn push(&mut self, sample: Sample)
+        requires { length self.old.samples < self.old.room }
+        ensures samples { self.new.samples ≡ self.old.samples ++ sample ∷ [] }
+        ensures room { self.new.room ≡ self.old.room }
+    {
+        self.samples.push(sample).unwrap();
+    }
+
+    /// How many samples the tally holds.
+    pub fn len(&self) -> u32
+        ensures count { result ≡ length self.now.samples }
+        ensures within { result ≤ self.now.room }
+    {
+        self.samples.len() as u32
+    }
+
+    /// The sample at a position, counted from 0, or None exactly past the end.
+    pub fn get(&self, at: u32) -> Option<Sample>
+        ensures { result ≡ slice_get self.now.samples at }
+    {
+        self.samples.get(at as usize).copied()
+    }
+}
+
+#[cfg(test)]
+mod tests {
+    use super::*;
+
+    fn sample(sent: u64) -> Sample {
+        Sample {
+            name: 1,
+            status: 200,
+            span: 7,
+            sent,
+            received: 9,
+            failed: false,
+            check_bits: 3,
+        }
+    }
+
+    #[test]
+    fn keeps_samples_in_order(rt: HostRuntime) -> Result<(), BaseFault> {
+        let mut tally = Tally::new(rt.alloc(), 2)?;
+        assert_eq!(rt; tally.len(), 0);
+        tally.push(sample(4));
+        tally.push(sample(5));
+        assert_eq!(rt; tally.len(), 2);
+        for (at, want) in [(0, Some(4)), (1, Some(5)), (2, None), (u32::MAX, None)] {
+            assert_eq!(rt; tally.get(at), want.map(sample), "at {at}");
+        }
+        let empty = Tally::empty(rt.alloc());
+        assert_eq!(rt; empty.len(), 0);
+        assert_eq!(rt; empty.get(0), None);
+        Ok(())
+    }
+}
