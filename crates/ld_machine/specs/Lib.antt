@@ -1,0 +1,4 @@
+pub mod Moment
+pub mod Plan
+pub mod State
+pub mod Scenario

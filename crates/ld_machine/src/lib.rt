@@ -1,0 +1,14 @@
+//! The pool's machine: what a state is, which acts are enabled in it and in which order they come,
+//! what a step does, and which histories are legal.
+//!
+//! The definitions stand in `specs/`. The functions here have no work to do: their contracts are
+//! the laws of the machine, and worked examples of it.
+#![tactic(auto)]
+
+ghost use Rattle.std.specs.Prelude.{◌≡◌, ℕ};
+
+/// A start.
+pub fn start()
+    ensures { (n : ℕ) → n ≡ n }
+{
+}
