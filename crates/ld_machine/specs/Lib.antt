@@ -2,3 +2,14 @@ pub mod Moment
 pub mod Plan
 pub mod State
 pub mod Scenario
+pub mod Moves
+pub mod Order
+pub mod Acts
+pub mod Replies
+pub mod Room
+pub mod Wait
+pub mod Commands
+pub mod Effect
+pub mod Samples
+pub mod Same
+pub mod Step

@@ -1,5 +1,5 @@
 -- The plan of one instance: what it owns of a test, as plain data.
-use Rattle.std.specs.Prelude.{ℕ, List, [], map, min, nat_lt, if◌then◌else◌}
+use Rattle.std.specs.Prelude.{ℕ, Bool, true, false, List, [], map, min, nat_lt, if◌then◌else◌}
 use Rattle.ld_base.specs.declared.metric.NameSpec.{NameSpec}
 use Rattle.ld_machine.specs.Moment.{moment_after}
 
@@ -90,3 +90,8 @@ owned_slots (ConstantVus slots) = slots
 owned_slots (RampingVus _ slots) = map (λ s. s.slot) slots
 owned_slots (ExternallyControlled _ _ slots) = slots
 owned_slots _ = []
+
+-- the executor is `externally-controlled`
+abbrev pub is_external : Executor → Bool
+is_external (ExternallyControlled _ _ _) = true
+is_external _ = false
