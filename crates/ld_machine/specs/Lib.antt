@@ -13,3 +13,8 @@ pub mod Effect
 pub mod Samples
 pub mod Same
 pub mod Step
+pub mod History
+pub mod Settled
+pub mod Drops
+pub mod OnTime
+pub mod Rehearsal
