@@ -18,3 +18,4 @@ pub mod Settled
 pub mod Drops
 pub mod OnTime
 pub mod Rehearsal
+pub mod Examples

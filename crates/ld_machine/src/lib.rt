@@ -5,10 +5,6 @@
 //! the laws of the machine, and worked examples of it.
 #![tactic(auto)]
 
-ghost use Rattle.std.specs.Prelude.{◌≡◌, ℕ};
+mod examples;
 
-/// A start.
-pub fn start()
-    ensures { (n : ℕ) → n ≡ n }
-{
-}
+pub use examples::{dropped_arrival, grown_arrival};
