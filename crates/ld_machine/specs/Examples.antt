@@ -1,5 +1,5 @@
 -- Worked examples: plans of one scenario, and histories under them, written as their journals' lines.
-use Rattle.std.specs.Prelude.{ℕ, List, [], ◌∷◌}
+use Rattle.std.specs.Prelude.{ℕ, ◌+◌, ◌-◌, ◌==◌, not, List, [], ◌∷◌, map, filter, swap, if◌then◌else◌}
 use Rattle.ld_base.specs.Tally.{TallyView}
 use Rattle.ld_base.specs.declared.act.Act.{Act}
 use Rattle.ld_base.specs.declared.act.Act.TheVariants.{Take, Grow, Start, Drop, Late, Return, Release, Stop, Close, Control}
@@ -107,3 +107,22 @@ constant_interrupted =
     ∷ line 4 0 1500000000 (Release 0 1)
     ∷ line 5 0 1500000000 (Close 0)
     ∷ []
+
+-- ---- changes of a history
+
+-- the lines with their turns counted anew, from one on
+abbrev pub renumbered : ℕ → List Entry → List Entry
+renumbered at [] = []
+renumbered at (entry ∷ rest) = record entry { turn = at } ∷ renumbered (at + 1) rest
+
+-- the lines with that of one turn changed
+abbrev pub with_line : Entry → List Entry → List Entry
+with_line changed lines = map (λ (entry : Entry). if entry.turn == changed.turn then changed else entry) lines
+
+-- the lines without that of one turn
+abbrev pub without_line : ℕ → List Entry → List Entry
+without_line gone lines = renumbered 1 (filter (λ (entry : Entry). not (entry.turn == gone)) lines)
+
+-- the lines with that of one turn put before the one in front of it
+abbrev pub moved_up : ℕ → List Entry → List Entry
+moved_up moved lines = renumbered 1 (swap lines (moved - 2) (moved - 1))

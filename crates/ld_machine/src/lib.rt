@@ -7,4 +7,8 @@
 
 mod examples;
 
-pub use examples::{dropped_arrival, grown_arrival};
+pub use examples::{
+    changed_dropped_arrival, changed_dropped_iteration, changed_grown_arrival,
+    changed_iteration_done, dropped_arrival, dropped_iteration, grown_arrival, iteration_done,
+    iteration_interrupted, rehearsed_dropped,
+};
