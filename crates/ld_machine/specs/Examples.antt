@@ -5,7 +5,7 @@ use Rattle.ld_base.specs.declared.act.Act.{Act}
 use Rattle.ld_base.specs.declared.act.Act.TheVariants.{Take, Grow, Start, Drop, Late, Return, Release, Stop, Close, Control}
 use Rattle.ld_base.specs.declared.act.Outcome.TheVariants.{Done, Interrupted}
 use Rattle.ld_base.specs.declared.entry.Entry.{Entry}
-use Rattle.ld_machine.specs.Plan.{SlotItem, Arrival, Executor, PerVuIterations, ConstantVus, ArrivalRate, Part, Plan}
+use Rattle.ld_machine.specs.Plan.{SlotItem, Arrival, Executor, SharedIterations, PerVuIterations, ConstantVus, ArrivalRate, Part, Plan}
 
 -- a line of a journal: its turn, its thread, its reading and its act
 abbrev pub line : ℕ → ℕ → ℕ → Act → Entry
@@ -106,6 +106,31 @@ constant_interrupted =
     ∷ line 3 0 1500000000 (Return 0 1 0 Interrupted no_samples)
     ∷ line 4 0 1500000000 (Release 0 1)
     ∷ line 5 0 1500000000 (Close 0)
+    ∷ []
+
+-- ---- `shared-iterations`: five iterations that two users share, ten minutes at most
+
+abbrev pub shared_plan : Plan
+shared_plan = plan_of 600000000000 30000000000 5 (SharedIterations 2 (0 ∷ 1 ∷ 2 ∷ 3 ∷ 4 ∷ [])) 2 2
+
+-- with iterations of one second
+abbrev pub shared_done : List Entry
+shared_done =
+  line 1 0 0 (Take 0 1 0)
+    ∷ line 2 0 0 (Take 0 2 1)
+    ∷ line 3 0 0 (Start 0 1 0 630000000000)
+    ∷ line 4 0 0 (Start 0 2 1 630000000000)
+    ∷ line 5 0 1000000000 (Return 0 1 0 Done no_samples)
+    ∷ line 6 0 1000000000 (Return 0 2 1 Done no_samples)
+    ∷ line 7 0 1000000000 (Start 0 1 2 630000000000)
+    ∷ line 8 0 1000000000 (Start 0 2 3 630000000000)
+    ∷ line 9 0 2000000000 (Return 0 1 2 Done no_samples)
+    ∷ line 10 0 2000000000 (Return 0 2 3 Done no_samples)
+    ∷ line 11 0 2000000000 (Start 0 1 4 630000000000)
+    ∷ line 12 0 2000000000 (Release 0 2)
+    ∷ line 13 0 3000000000 (Return 0 1 4 Done no_samples)
+    ∷ line 14 0 3000000000 (Release 0 1)
+    ∷ line 15 0 3000000000 (Close 0)
     ∷ []
 
 -- ---- changes of a history

@@ -7,7 +7,7 @@ ghost use Rattle.ld_machine.specs.Settled.{IsSettled, is_settled};
 ghost use Rattle.ld_machine.specs.Drops.{DropsAllowed};
 ghost use Rattle.ld_machine.specs.OnTime.{IsOnTime};
 ghost use Rattle.ld_machine.specs.Rehearsal.{IsRehearsed};
-ghost use Rattle.ld_machine.specs.Examples.{line, no_samples, with_line, without_line, moved_up, arrival_plan, arrival_dropped, arrival_grown, per_vu_plan, per_vu_dropped, constant_plan, constant_done, constant_interrupted};
+ghost use Rattle.ld_machine.specs.Examples.{line, no_samples, with_line, without_line, moved_up, arrival_plan, arrival_dropped, arrival_grown, per_vu_plan, per_vu_dropped, constant_plan, constant_done, constant_interrupted, shared_plan, shared_done};
 
 /// An arrival that finds its one user busy is dropped where no more may be made.
 pub fn dropped_arrival()
@@ -98,8 +98,20 @@ pub fn changed_iteration_done()
 {
 }
 
-/// With iterations of one second the first history is what a rehearsal plays.
-pub fn rehearsed_dropped()
-    ensures rehearsed { IsRehearsed (arrival_plan 1) 1000000000 arrival_dropped }
+/// Each of these histories is what a rehearsal plays, with iterations of so many nanoseconds.
+pub fn rehearsals()
+    ensures arrival_dropped { IsRehearsed (arrival_plan 1) 1000000000 arrival_dropped }
+    ensures arrival_grown { IsRehearsed (arrival_plan 2) 1000000000 arrival_grown }
+    ensures per_vu_dropped { IsRehearsed per_vu_plan 2000000000 per_vu_dropped }
+    ensures constant_done { IsRehearsed constant_plan 1500000000 constant_done }
+    ensures constant_interrupted { IsRehearsed constant_plan 1500000001 constant_interrupted }
+    ensures shared_done { IsRehearsed shared_plan 1000000000 shared_done }
+{
+}
+
+/// Five iterations that two users share.
+pub fn shared_iterations()
+    ensures legal { IsLegal shared_plan shared_done }
+    ensures settled { IsSettled shared_plan shared_done }
 {
 }

@@ -10,5 +10,5 @@ mod examples;
 pub use examples::{
     changed_dropped_arrival, changed_dropped_iteration, changed_grown_arrival,
     changed_iteration_done, dropped_arrival, dropped_iteration, grown_arrival, iteration_done,
-    iteration_interrupted, rehearsed_dropped,
+    iteration_interrupted, rehearsals, shared_iterations,
 };
