@@ -19,3 +19,4 @@ pub mod Drops
 pub mod OnTime
 pub mod Rehearsal
 pub mod Examples
+pub mod FurtherExamples

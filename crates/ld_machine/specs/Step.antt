@@ -141,3 +141,7 @@ results plan state thread (asks.Control command) t = control_result plan state t
 -- in the state the ask of a thread at the reading t may give this result
 abbrev pub IsStep : Plan → State → ℕ → Ask → ℕ → Result → Type 0
 IsStep plan state thread ask t result = Contains (results plan state thread ask t) result
+
+-- the replies that the ask of a thread at the reading t may have
+abbrev pub replies : Plan → State → ℕ → Ask → ℕ → List Reply
+replies plan state thread ask t = map (λ (r : Result). r.reply) (results plan state thread ask t)

@@ -6,9 +6,13 @@
 #![tactic(auto)]
 
 mod examples;
+mod further_examples;
 
 pub use examples::{
     changed_dropped_arrival, changed_dropped_iteration, changed_grown_arrival,
     changed_iteration_done, dropped_arrival, dropped_iteration, grown_arrival, iteration_done,
     iteration_interrupted, rehearsals, shared_iterations,
+};
+pub use further_examples::{
+    controlled_users, full_journal, late_arrivals, ramping_users, two_scenarios,
 };
