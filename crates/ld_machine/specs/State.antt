@@ -45,16 +45,20 @@ pub record State : Type 0 where
   pub entries : ℕ
   pub samples : ℕ
 
--- the user is busy
+-- a held user is idle where it does nothing, and busy where it plays an iteration
+abbrev pub is_idle_condition : Condition → Bool
+is_idle_condition Idle = true
+is_idle_condition (Busy _ _ _) = false
+
 abbrev pub is_busy_condition : Condition → Bool
 is_busy_condition Idle = false
 is_busy_condition (Busy _ _ _) = true
 
+abbrev pub is_idle : HeldUser → Bool
+is_idle h = is_idle_condition h.condition
+
 abbrev pub is_busy : HeldUser → Bool
 is_busy h = is_busy_condition h.condition
-
-abbrev pub is_idle : HeldUser → Bool
-is_idle h = not (is_busy h)
 
 -- the users that a share holds: those that are idle, and those that are busy
 abbrev pub idle_users : Share → List HeldUser

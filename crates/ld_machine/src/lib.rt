@@ -7,6 +7,7 @@
 
 mod examples;
 mod further_examples;
+mod laws;
 
 pub use examples::{
     changed_dropped_arrival, changed_dropped_iteration, changed_grown_arrival,
@@ -16,3 +17,4 @@ pub use examples::{
 pub use further_examples::{
     controlled_users, full_journal, late_arrivals, ramping_users, two_scenarios,
 };
+pub use laws::{always_answered, first_acts, fitting_tallies, same_history};

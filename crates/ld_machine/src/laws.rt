@@ -1,0 +1,42 @@
+// The laws of the machine, over all plans, states and histories.
+ghost use Rattle.std.specs.Prelude.{◌≡◌, ◌↔◌, ◌<◌, ℕ, List, [], Contains, IsTrue, length};
+ghost use Rattle.ld_base.specs.Tally.{TallyView, TallyFits};
+ghost use Rattle.ld_base.specs.declared.ask.Ask.TheVariants as asks;
+ghost use Rattle.ld_base.specs.declared.entry.Entry.{Entry};
+ghost use Rattle.ld_base.specs.declared.metric.NameSpec.{NameSpec};
+ghost use Rattle.ld_machine.specs.Plan.{Plan};
+ghost use Rattle.ld_machine.specs.State.{State};
+ghost use Rattle.ld_machine.specs.Moves.{Move, enabled};
+ghost use Rattle.ld_machine.specs.Order.{place_of, first_moves};
+ghost use Rattle.ld_machine.specs.Samples.{tally_fits};
+ghost use Rattle.ld_machine.specs.Same.{same_entries};
+ghost use Rattle.ld_machine.specs.Step.{results};
+
+/// A tally passes the test exactly where it fits.
+pub fn fitting_tallies()
+    ensures { (names : List NameSpec) (room : ℕ) (tally : TallyView) → IsTrue (tally_fits names room tally) ↔ TallyFits names room tally }
+{
+}
+
+/// Entries pass the test exactly where they are the same.
+pub fn same_history()
+    ensures { (a b : List Entry) → IsTrue (same_entries a b) ↔ (a ≡ b) }
+{
+}
+
+/// An ask for an act always has a reply.
+pub fn always_answered()
+    ensures { (plan : Plan) (state : State) (thread t : ℕ) → 0 < length (results plan state thread asks.Act t) }
+{
+}
+
+/// Where some act is enabled there is a first one; and the first ones have one place in the order,
+/// so they differ only in the user and in what goes with it.
+pub fn first_acts()
+    ensures exist { (plan : Plan) (state : State) (t : ℕ) → first_moves plan state t ≡ [] → enabled plan state t ≡ [] }
+    ensures one_place {
+        (plan : Plan) (state : State) (t : ℕ) (a b : Move) →
+            Contains (first_moves plan state t) a → Contains (first_moves plan state t) b → place_of a ≡ place_of b
+    }
+{
+}
