@@ -1,3 +1,4 @@
 pub mod ListLemmas
 pub mod OrderLemmas
 pub mod SameLemmas
+pub mod SamplesLemmas
