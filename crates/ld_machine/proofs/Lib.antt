@@ -2,3 +2,4 @@ pub mod ListLemmas
 pub mod OrderLemmas
 pub mod SameLemmas
 pub mod SamplesLemmas
+pub mod StepLemmas

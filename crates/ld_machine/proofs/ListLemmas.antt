@@ -1,6 +1,6 @@
 -- Elements of lists, and what tests, filters and maps make of them.
 use Rattle.std.proofs.Common.{◌≡◌, ◌≢◌, ◌<◌, ◌≤◌, ◌+◌, ℕ, suc, zero, Bool, true, false, not, cond, ◌&&◌, ◌||◌, List, [], ◌∷◌, ◌++◌, ◌⊎◌, inl, inr, get_or, length, map, arith, refl, sym, ap, subst, filter, flat_map, filter_map, Option, Some, None, Contains, slice_get}
-use Rattle.std.specs.List.{list_any, list_all, enumerate_from}
+use Rattle.std.specs.List.{list_any, list_all, enumerate_from, cons_option}
 use Rattle.std.proofs.lemmas.Grind.{common_steps}
 
 -- x is an element of the list
@@ -83,3 +83,38 @@ pub In-from_Contains : {A : Type 0} (x : A) (xs : List A) (k : ℕ) → k < leng
 In-from_Contains x [] k below at = absurd (omega arith)
 In-from_Contains x (y ∷ xs) zero below at = subst (λ z. In x (z ∷ xs)) (sym at) here
 In-from_Contains x (y ∷ xs) (suc k) below at = there (In-from_Contains x xs k (omega arith) at)
+
+-- nothing is in the empty list
+pub nothing_in : {A : Type 0} {x : A} → In x [] → ⊥
+nothing_in h = elim h [ ]
+
+In-filter_map-head : {A B : Type 0} (f : A → Option B) (x : A) (y z : B) (xs : List A) → f x ≡ Some z →
+  (In y (filter_map f xs) → (x' : A) × In x' xs × (f x' ≡ Some y)) →
+  In y (z ∷ filter_map f xs) → (x' : A) × In x' (x ∷ xs) × (f x' ≡ Some y)
+In-filter_map-head f x y z xs e more here = (x, here, e)
+In-filter_map-head f x y z xs e more (there h) = let later = more h in (later.0, there later.1, later.2)
+
+-- an element of what a filter makes of each element comes from one
+pub In-filter_map : {A B : Type 0} (f : A → Option B) (y : B) (xs : List A) → In y (filter_map f xs) → (x : A) × In x xs × (f x ≡ Some y)
+In-filter_map {A} {B} f y [] h = elim h [ ]
+In-filter_map {A} {B} f y (x ∷ xs) h =
+  let P : Option B → Type 0 = λ o. (f x ≡ o) → In y (cons_option o (filter_map f xs)) → (x' : A) × In x' (x ∷ xs) × (f x' ≡ Some y) in
+  let found : P (f x) = elim (f x) as P [
+    None ↦ λ e more. let later = In-filter_map f y xs more in (later.0, there later.1, later.2)
+  | Some z ↦ λ e more. In-filter_map-head f x y z xs e (In-filter_map f y xs) more
+  ] in found refl h
+
+-- an element with its number stands at that place
+pub In-enumerate : {A : Type 0} (k : ℕ) (p : ℕ × A) (xs : List A) → In p (enumerate_from k xs) →
+  In p.1 xs × ((j : ℕ) × (p.0 ≡ k + j) × (slice_get xs j ≡ Some p.1))
+In-enumerate k p [] h = elim h [ ]
+In-enumerate k p (y ∷ ys) here = (here, (0, omega arith, refl))
+In-enumerate k p (y ∷ ys) (there more) =
+  let later = In-enumerate (k + 1) p ys more in
+  let place : p.0 ≡ k + suc later.1.0 = let e : p.0 ≡ (k + 1) + later.1.0 = later.1.1 in omega arith in
+  (there later.0, (suc later.1.0, place, later.1.2))
+
+-- each element passes a test that all pass
+pub all_at : {A : Type 0} (p : A → Bool) (x : A) {xs : List A} → In x xs → list_all p xs ≡ true → p x ≡ true
+all_at p x (here {xs = xs}) h = (both_true (p x) (list_all p xs) h).0
+all_at p x (there {y = y} {xs = xs} more) h = all_at p x more (both_true (p y) (list_all p xs) h).1

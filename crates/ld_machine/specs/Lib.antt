@@ -20,3 +20,4 @@ pub mod OnTime
 pub mod Rehearsal
 pub mod Examples
 pub mod FurtherExamples
+pub mod Stops

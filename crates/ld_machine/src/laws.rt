@@ -11,6 +11,8 @@ ghost use Rattle.ld_machine.specs.Order.{place_of, first_moves};
 ghost use Rattle.ld_machine.specs.Samples.{tally_fits};
 ghost use Rattle.ld_machine.specs.Same.{same_entries};
 ghost use Rattle.ld_machine.specs.Step.{results};
+ghost use Rattle.ld_machine.specs.History.{IsLegal};
+ghost use Rattle.ld_machine.specs.Stops.{WindsDown};
 
 /// A tally passes the test exactly where it fits.
 pub fn fitting_tallies()
@@ -38,5 +40,12 @@ pub fn first_acts()
         (plan : Plan) (state : State) (t : ℕ) (a b : Move) →
             Contains (first_moves plan state t) a → Contains (first_moves plan state t) b → place_of a ≡ place_of b
     }
+{
+}
+
+/// Behind a commanded stop nothing is taken, grown, started, dropped or counted late, and no second
+/// stop is commanded.
+pub fn behind_a_stop()
+    ensures { (plan : Plan) (history : List Entry) → IsLegal plan history → WindsDown history }
 {
 }

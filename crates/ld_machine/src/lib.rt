@@ -17,4 +17,4 @@ pub use examples::{
 pub use further_examples::{
     controlled_users, full_journal, late_arrivals, ramping_users, two_scenarios,
 };
-pub use laws::{always_answered, first_acts, fitting_tallies, same_history};
+pub use laws::{always_answered, behind_a_stop, first_acts, fitting_tallies, same_history};
