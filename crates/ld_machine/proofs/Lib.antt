@@ -3,3 +3,4 @@ pub mod OrderLemmas
 pub mod SameLemmas
 pub mod SamplesLemmas
 pub mod StepLemmas
+pub mod StopLemmas
