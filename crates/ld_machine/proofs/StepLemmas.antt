@@ -1,12 +1,16 @@
 -- What a step's entries tell of the act that wrote them.
-use Rattle.std.proofs.Common.{◌≡◌, ◌≢◌, ◌<◌, ◌≤◌, ◌+◌, ℕ, Bool, true, false, not, cond, ◌&&◌, List, [], ◌∷◌, Option, None, Some, length, map, arith, refl, sym, ap, ◌∙◌, subst, slice_get}
+use Rattle.std.proofs.Common.{◌≡◌, ◌≢◌, ◌<◌, ◌≤◌, ◌+◌, ℕ, suc, Bool, true, false, not, cond, ◌&&◌, List, [], ◌∷◌, Option, None, Some, length, map, arith, refl, sym, ap, ◌∙◌, subst, slice_get}
 use Rattle.std.specs.List.{list_any, list_all, enumerate_from}
 use Rattle.std.specs.Option.{option_map_or}
 use Rattle.std.proofs.lemmas.Grind.{common_steps}
 use Rattle.ld_base.specs.declared.act.Act.{Act}
+use Rattle.ld_base.specs.Stint.{StintView}
+use Rattle.ld_base.specs.Tally.{TallyView}
+use Rattle.ld_base.specs.declared.act.Act.TheVariants.{Take, Grow, Start, Drop, Late, Return, Release, Stop, Close, Control}
+use Rattle.ld_base.specs.declared.command.Command.{Command}
 use Rattle.ld_base.specs.declared.entry.Entry.{Entry}
 use Rattle.ld_base.specs.declared.reply.Reply.{Reply}
-use Rattle.ld_base.specs.declared.reply.Reply.TheVariants.{Over, Wait}
+use Rattle.ld_base.specs.declared.reply.Reply.TheVariants.{Over, Wait, Noted, Denied}
 use Rattle.ld_machine.specs.Wait.{wait_moment}
 use Rattle.ld_machine.specs.Plan.{Part, Plan}
 use Rattle.ld_machine.specs.State.{Share, Controls, State, all_closed}
@@ -15,9 +19,13 @@ use Rattle.ld_machine.specs.Moves.{Move, Users, users_of, moves_of, scenarios_wi
 use Rattle.ld_machine.specs.Order.{is_before, place_of, first_among, first_moves}
 use Rattle.ld_machine.specs.Acts.{acts_of}
 use Rattle.ld_machine.specs.Replies.{reply_to}
-use Rattle.ld_machine.specs.Room.{room_refusal}
+use Rattle.ld_machine.specs.Room.{room_refusal, entries_refusal, script_room}
 use Rattle.ld_machine.specs.Same.{same_entries}
-use Rattle.ld_machine.specs.Step.{Result, entries_of, answered, performed, move_result, open_results, act_results}
+use Rattle.ld_machine.specs.Step.{Result, entries_of, answered, performed, move_result, open_results, act_results, is_out, outcome_of, return_of, return_results, control_result}
+use Rattle.ld_machine.specs.Commands.{is_denied}
+use Rattle.ld_machine.specs.Samples.{tally_fits}
+use Rattle.ld_machine.specs.History.{adds_one, adds_two}
+use Rattle.ld_machine.specs.OnTime.{is_asked_act}
 use Rattle.ld_machine.proofs.ListLemmas.{In, here, there, nothing_in, In-from_any, In-filter, In-map, In-flat_map, In-enumerate}
 use Rattle.ld_machine.proofs.SameLemmas.{same_entries_tells}
 
@@ -82,3 +90,77 @@ first_enabled plan state t move h =
     stands = subst (λ n. slice_get (scenarios plan state) n ≡ Some found.0.1) place at.1.2;
     enabled = found.2
   }
+
+-- ---- steps that add one entry, and steps that add two
+
+-- the result that adds these entries
+abbrev adds : List Result → List Entry → Bool
+adds results entries = list_any (λ (r : Result). same_entries r.entries entries) results
+
+no_pair_in : (r : Result) (one two : Entry) → length r.entries ≤ 1 → adds (r ∷ []) (one ∷ two ∷ []) ≡ true → ⊥
+no_pair_in r one two short h =
+  let found = In-from_any (λ (r : Result). same_entries r.entries (one ∷ two ∷ [])) (r ∷ []) h in
+  let same : r.entries ≡ one ∷ two ∷ [] =
+    ap (λ (r : Result). r.entries) (sym (only found.0 r found.1)) ∙ same_entries_tells found.0.entries (one ∷ two ∷ []) found.2 in
+  let long : length r.entries ≡ 2 = ap (λ (es : List Entry). length es) same in
+  omega arith
+
+return_short : (plan : Plan) (state : State) (thread t : ℕ) (stint : StintView) (finished : Bool) (tally : TallyView) (one two : Entry) →
+  adds (return_results plan state thread t stint finished tally) (one ∷ two ∷ []) ≡ true → ⊥
+return_short plan state thread t stint finished tally one two h =
+  let result = performed plan state thread t Noted (return_of stint (outcome_of finished t stint.until) tally ∷ []) in
+  let P : Bool → Type 0 = λ b. adds (cond b (result ∷ []) []) (one ∷ two ∷ []) ≡ true → ⊥ in
+  let short : P (is_out state thread stint && tally_fits plan.names (script_room plan stint.scenario) tally) =
+    elim (is_out state thread stint && tally_fits plan.names (script_room plan stint.scenario) tally) as P [
+      true ↦ λ at. no_pair_in result one two (omega arith) at
+    | false ↦ λ at. absurd (cc)
+    ]
+  in short h
+
+control_short : (plan : Plan) (state : State) (thread t : ℕ) (command : Command) → length (control_result plan state thread t command).entries ≤ 1
+control_short plan state thread t command =
+  let noted = performed plan state thread t Noted (Control command ∷ []) in
+  let Q : Option Reply → Type 0 = λ o. length (option_map_or (answered state) o noted).entries ≤ 1 in
+  let room : Q (entries_refusal plan state 1 0) = elim (entries_refusal plan state 1 0) as Q [ None ↦ omega arith | Some reply ↦ omega arith ] in
+  let P : Bool → Type 0 = λ b. length (cond b (answered state Denied) (option_map_or (answered state) (entries_refusal plan state 1 0) noted)).entries ≤ 1 in
+  elim (is_denied plan state command) as P [ true ↦ omega arith | false ↦ room ]
+
+some_entry : (one : Entry) (rest : List Entry) → one ∷ rest ≢ []
+some_entry one rest e = let long : suc (length rest) ≡ 0 = ap (λ (es : List Entry). length es) e in omega arith
+
+-- two entries of one step are those of a first act
+pair_wrote_by : (plan : Plan) (state : State) (at thread t : ℕ) (act : Act) (two : Entry) →
+  let one : Entry = record { turn = at; thread = thread; act = act; reading = t } in
+  adds_two plan state one two ≡ true → Wrote plan state thread t (one ∷ two ∷ [])
+pair_wrote_by plan state at thread t (Take n user slot) two h = act_wrote plan state thread t _ (some_entry _ _) h
+pair_wrote_by plan state at thread t (Grow n user slot) two h = act_wrote plan state thread t _ (some_entry _ _) h
+pair_wrote_by plan state at thread t (Start n user item until) two h = act_wrote plan state thread t _ (some_entry _ _) h
+pair_wrote_by plan state at thread t (Drop n item) two h = act_wrote plan state thread t _ (some_entry _ _) h
+pair_wrote_by plan state at thread t (Late n item) two h = act_wrote plan state thread t _ (some_entry _ _) h
+pair_wrote_by plan state at thread t (Release n user) two h = act_wrote plan state thread t _ (some_entry _ _) h
+pair_wrote_by plan state at thread t (Stop n) two h = act_wrote plan state thread t _ (some_entry _ _) h
+pair_wrote_by plan state at thread t (Close n) two h = act_wrote plan state thread t _ (some_entry _ _) h
+pair_wrote_by plan state at thread t (Return n user item outcome tally) two h = absurd (return_short plan state thread t _ _ _ _ two h)
+pair_wrote_by plan state at thread t (Control command) two h = absurd (no_pair_in (control_result plan state thread t command) _ two (control_short plan state thread t command) h)
+
+pub pair_wrote : (plan : Plan) (state : State) (one two : Entry) → adds_two plan state one two ≡ true → Wrote plan state one.thread one.reading (one ∷ two ∷ [])
+pair_wrote plan state one two h = pair_wrote_by plan state one.turn one.thread one.reading one.act two h
+
+-- an entry that an ask for an act added is that of a first act
+one_wrote_by : (plan : Plan) (state : State) (at thread t : ℕ) (act : Act) → is_asked_act act ≡ true →
+  let one : Entry = record { turn = at; thread = thread; act = act; reading = t } in
+  adds_one plan state one ≡ true → Wrote plan state thread t (one ∷ [])
+one_wrote_by plan state at thread t (Take n user slot) asked h = act_wrote plan state thread t _ (some_entry _ _) h
+one_wrote_by plan state at thread t (Grow n user slot) asked h = act_wrote plan state thread t _ (some_entry _ _) h
+one_wrote_by plan state at thread t (Start n user item until) asked h = act_wrote plan state thread t _ (some_entry _ _) h
+one_wrote_by plan state at thread t (Drop n item) asked h = act_wrote plan state thread t _ (some_entry _ _) h
+one_wrote_by plan state at thread t (Late n item) asked h = act_wrote plan state thread t _ (some_entry _ _) h
+one_wrote_by plan state at thread t (Release n user) asked h = act_wrote plan state thread t _ (some_entry _ _) h
+one_wrote_by plan state at thread t (Stop n) asked h = act_wrote plan state thread t _ (some_entry _ _) h
+one_wrote_by plan state at thread t (Close n) asked h = act_wrote plan state thread t _ (some_entry _ _) h
+one_wrote_by plan state at thread t (Return n user item outcome tally) asked h = absurd (cc)
+one_wrote_by plan state at thread t (Control command) asked h = absurd (cc)
+
+pub one_wrote : (plan : Plan) (state : State) (one : Entry) → is_asked_act one.act ≡ true → adds_one plan state one ≡ true →
+  Wrote plan state one.thread one.reading (one ∷ [])
+one_wrote plan state one asked h = one_wrote_by plan state one.turn one.thread one.reading one.act asked h
