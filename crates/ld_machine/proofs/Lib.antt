@@ -4,3 +4,4 @@ pub mod SameLemmas
 pub mod SamplesLemmas
 pub mod StepLemmas
 pub mod StopLemmas
+pub mod SourceLemmas

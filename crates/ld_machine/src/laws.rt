@@ -1,5 +1,5 @@
 // The laws of the machine, over all plans, states and histories.
-ghost use Rattle.std.specs.Prelude.{◌≡◌, ◌↔◌, ◌<◌, ℕ, List, [], Contains, IsTrue, length};
+ghost use Rattle.std.specs.Prelude.{◌≡◌, ◌↔◌, ◌<◌, ◌≤◌, ℕ, List, [], Contains, IsTrue, length};
 ghost use Rattle.ld_base.specs.Tally.{TallyView, TallyFits};
 ghost use Rattle.ld_base.specs.declared.ask.Ask.TheVariants as asks;
 ghost use Rattle.ld_base.specs.declared.entry.Entry.{Entry};
@@ -13,6 +13,7 @@ ghost use Rattle.ld_machine.specs.Same.{same_entries};
 ghost use Rattle.ld_machine.specs.Step.{results};
 ghost use Rattle.ld_machine.specs.History.{IsLegal};
 ghost use Rattle.ld_machine.specs.Stops.{WindsDown};
+ghost use Rattle.ld_machine.specs.Drops.{DropsAllowed};
 
 /// A tally passes the test exactly where it fits.
 pub fn fitting_tallies()
@@ -47,5 +48,12 @@ pub fn first_acts()
 /// stop is commanded.
 pub fn behind_a_stop()
     ensures { (plan : Plan) (history : List Entry) → IsLegal plan history → WindsDown history }
+{
+}
+
+/// In a legal history an arrival is dropped only when it is due, before the end, and where nobody
+/// could play it; an iteration is dropped, and an arrival counted late, only at the end or behind it.
+pub fn dropped_and_late()
+    ensures { (plan : Plan) (history : List Entry) → plan.planned ≤ plan.limit → IsLegal plan history → DropsAllowed plan history }
 {
 }

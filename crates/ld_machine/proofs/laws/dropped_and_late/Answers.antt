@@ -1,0 +1,5 @@
+use Rattle.ld_machine.proofs.SourceLemmas.{source_of}
+use Rattle.ld_machine.proofs.laws.dropped_and_late.Goals as goal
+
+pub returns : goal.returns
+returns c plan history within h = ?
