@@ -5,3 +5,4 @@ pub mod SamplesLemmas
 pub mod StepLemmas
 pub mod StopLemmas
 pub mod SourceLemmas
+pub mod DropLemmas
