@@ -12,14 +12,14 @@ use Rattle.ld_machine.specs.Plan.{Arrival, Executor, SharedIterations, PerVuIter
 use Rattle.ld_machine.specs.State.{Share, State, idle_users, held_count, free_users}
 use Rattle.ld_machine.specs.Scenario.{Scenario, first_of, where_holds, runs, has_ended, is_due, is_open_item, least_open_item, least_open_arrival, executor_arrivals, executor_max_vus, may_hold_more, due_arrival, item_to_drop, executor_item_to_drop}
 use Rattle.ld_machine.specs.Moves.{Answer, CountLate, StartOn, GrowAndStart, TakeAndStart, DropArrival, Move, StopScenario, ReleaseUser, TakeUser, AnswerArrival, StartIteration, DropIteration, CloseScenario, Users, users_of, scenarios}
-use Rattle.ld_machine.specs.Acts.{acts_of}
+use Rattle.ld_machine.specs.Acts.{acts_of, is_start}
 use Rattle.ld_machine.specs.Effect.{after_entry, change_share, end_item, end_item_of}
 use Rattle.ld_machine.specs.Step.{entries_of}
 use Rattle.ld_machine.specs.History.{adds_one, adds_two, are_steps}
 use Rattle.ld_machine.specs.OnTime.{is_asked_act}
 use Rattle.ld_machine.specs.Drops.{is_item_due, nobody_for_arrival, executor_drop_allowed, drop_or_late_allowed, drops_allowed_from}
 use Rattle.ld_machine.proofs.ListLemmas.{In, both_true, some_true}
-use Rattle.ld_machine.proofs.SourceLemmas.{Source, by_stop, by_release, by_take, by_arrival, by_start, by_drop, by_close, source_of, late_answer, drop_answer}
+use Rattle.ld_machine.proofs.SourceLemmas.{Source, by_stop, by_release, by_take, by_arrival, by_start, by_drop, by_close, source_of, late_answer, drop_answer, grow_answer}
 use Rattle.ld_machine.proofs.StepLemmas.{EnabledAt, first_enabled, Wrote, one_wrote, pair_wrote}
 
 -- the acts of the entries of acts are these acts
@@ -203,3 +203,119 @@ made_after plan state at thread t (Control commands.Stop) = omega arith
 made_after plan state at thread t (Control (commands.Pause b)) = omega arith
 made_after plan state at thread t (Control (commands.Vus n)) = omega arith
 made_after plan state at thread t (Control (commands.VusMax n)) = omega arith
+
+grown_by : List Act → ℕ
+grown_by [] = 0
+grown_by (act ∷ rest) = grows act + grown_by rest
+
+grown_in : List Entry → ℕ
+grown_in [] = 0
+grown_in (entry ∷ rest) = grows entry.act + grown_in rest
+
+grown-entries_of : (at thread t : ℕ) (acts : List Act) → grown_in (entries_of at thread t acts) ≡ grown_by acts
+unfolding grown_by grown_in
+grown-entries_of at thread t [] = refl
+grown-entries_of at thread t (act ∷ rest) = ap (λ n. grows act + n) (grown-entries_of (at + 1) thread t rest)
+
+-- an enabled act grows no user beyond the limit
+move_within : (plan : Plan) (state : State) (n : ℕ) (s : Scenario) (t : ℕ) (move : Move) → state.made ≤ plan.limit →
+  Source (users_of plan state) n s t move → state.made + grown_by (acts_of move) ≤ plan.limit
+unfolding grown_by grows
+move_within plan state n s t move within (by_stop h) = omega arith
+move_within plan state n s t move within (by_release u idle h) = omega arith
+move_within plan state n s t move within (by_take user slot free slots h) = omega arith
+move_within plan state n s t move within (by_start u item idle h) = omega arith
+move_within plan state n s t move within (by_close h) = omega arith
+move_within plan state n s t move within (by_drop item h) = omega arith
+move_within plan state n s t move within (by_arrival a (StartOn user) due answer) = omega arith
+move_within plan state n s t move within (by_arrival a (GrowAndStart user slot) due answer) =
+  let grow = grow_answer (users_of plan state) n s t user slot answer in
+  let below : nat_lt state.made plan.limit ≡ true = (both_true (may_hold_more s) (nat_lt state.made plan.limit) grow.1).1 in
+  let less : state.made < plan.limit = grind (arith, common_steps) in
+  omega arith
+move_within plan state n s t move within (by_arrival a (TakeAndStart user slot) due answer) = omega arith
+move_within plan state n s t move within (by_arrival a CountLate due answer) = omega arith
+move_within plan state n s t move within (by_arrival a DropArrival due answer) = omega arith
+
+wrote_within : (plan : Plan) (state : State) (thread t : ℕ) (entries : List Entry) → state.made ≤ plan.limit → Wrote plan state thread t entries →
+  state.made + grown_in entries ≤ plan.limit
+wrote_within plan state thread t entries within w =
+  let at = first_enabled plan state t w.move w.first in
+  let bound = move_within plan state at.number at.scenario t w.move within (source_of (users_of plan state) at.number at.scenario t w.move at.enabled) in
+  subst (λ es. state.made + grown_in es ≤ plan.limit) w.wrote
+    (rw (grown-entries_of (state.entries + 1) thread t (acts_of w.move)) bound)
+
+no_growth : (act : Act) → is_asked_act act ≡ false → grows act ≡ 0
+unfolding grows
+no_growth (Grow n user slot) h = absurd (cc)
+no_growth _ h = refl
+
+-- no step makes more users than the limit
+one_within : (plan : Plan) (state : State) (one : Entry) → state.made ≤ plan.limit → adds_one plan state one ≡ true → (after_entry plan state one).made ≤ plan.limit
+unfolding grown_in
+one_within plan state one within h =
+  let after = made_after plan state one.turn one.thread one.reading one.act in
+  let P : Bool → Type 0 = λ b. is_asked_act one.act ≡ b → state.made + grows one.act ≤ plan.limit in
+  let bound : P (is_asked_act one.act) = elim (is_asked_act one.act) as P [
+    true ↦ λ asked.
+        let total : state.made + (grows one.act + 0) ≤ plan.limit = wrote_within plan state one.thread one.reading (one ∷ []) within (one_wrote plan state one asked h) in
+        omega arith
+  | false ↦ λ not_asked. let none = no_growth one.act not_asked in omega arith
+  ] in
+  let total = bound refl in omega arith
+
+two_within : (plan : Plan) (state : State) (one two : Entry) → state.made ≤ plan.limit → adds_two plan state one two ≡ true →
+  (after_entry plan (after_entry plan state one) two).made ≤ plan.limit
+unfolding grown_in
+two_within plan state one two within h =
+  let first = made_after plan state one.turn one.thread one.reading one.act in
+  let second = made_after plan (after_entry plan state one) two.turn two.thread two.reading two.act in
+  let bound : state.made + (grows one.act + (grows two.act + 0)) ≤ plan.limit =
+    wrote_within plan state one.thread one.reading (one ∷ two ∷ []) within (pair_wrote plan state one two h) in
+  omega arith
+
+-- the second of two entries of a step is a Start
+second_starts : (move : Move) (at thread t : ℕ) (one two : Entry) → entries_of at thread t (acts_of move) ≡ one ∷ two ∷ [] → is_start two.act ≡ true
+second_starts move at thread t one two h = starts_in move (sym (acts_back at thread t (acts_of move)) ∙ ap (λ es. map (λ (e : Entry). e.act) es) h)
+  where
+  starts_in : (move : Move) → acts_of move ≡ one.act ∷ two.act ∷ [] → is_start two.act ≡ true
+  starts_in (AnswerArrival n due item until (GrowAndStart user slot)) e = let same : Start n user item until ≡ two.act = cc in subst (λ a. is_start a ≡ true) same refl
+  starts_in (AnswerArrival n due item until (TakeAndStart user slot)) e = let same : Start n user item until ≡ two.act = cc in subst (λ a. is_start a ≡ true) same refl
+  starts_in (AnswerArrival n due item until CountLate) e = absurd (cc)
+  starts_in (AnswerArrival n due item until (StartOn user)) e = absurd (cc)
+  starts_in (AnswerArrival n due item until DropArrival) e = absurd (cc)
+  starts_in (StopScenario n) e = absurd (cc)
+  starts_in (ReleaseUser n user) e = absurd (cc)
+  starts_in (TakeUser n user slot) e = absurd (cc)
+  starts_in (StartIteration n user item until) e = absurd (cc)
+  starts_in (DropIteration n item) e = absurd (cc)
+  starts_in (CloseScenario n) e = absurd (cc)
+
+start_allowed : (plan : Plan) (state : State) (act : Act) (t : ℕ) → is_start act ≡ true → drop_or_late_allowed plan state act t ≡ true
+start_allowed plan state (Start n user item until) t h = refl
+start_allowed plan state _ t h = absurd (cc)
+
+two_allowed : (plan : Plan) (state : State) (one two : Entry) → state.made ≤ plan.limit → adds_two plan state one two ≡ true →
+  (drop_or_late_allowed plan state one.act one.reading ≡ true) × (drop_or_late_allowed plan (after_entry plan state one) two.act two.reading ≡ true)
+two_allowed plan state one two within h =
+  let w = pair_wrote plan state one two h in
+  ( (both_true (drop_or_late_allowed plan state one.act one.reading) _ (wrote_allowed plan state one.thread one.reading (one ∷ two ∷ []) within w)).0
+  , start_allowed plan (after_entry plan state one) two.act two.reading (second_starts w.move (state.entries + 1) one.thread one.reading one two w.wrote) )
+
+-- ---- whole histories
+
+pub steps_allowed : (plan : Plan) (history : List Entry) (state : State) → state.made ≤ plan.limit → are_steps plan state history ≡ true →
+  drops_allowed_from plan state history ≡ true
+steps_allowed plan [] state within h = refl
+steps_allowed plan (one ∷ []) state within h = rw (one_allowed plan state one within h) refl
+steps_allowed plan (one ∷ two ∷ rest) state within h =
+  elim (some_true (adds_one plan state one && are_steps plan (after_entry plan state one) (two ∷ rest)) _ h) [
+    inl first ↦
+      let both = both_true (adds_one plan state one) _ first in
+      let now = one_allowed plan state one within both.0 in
+      rw now (steps_allowed plan (two ∷ rest) (after_entry plan state one) (one_within plan state one within both.0) both.1)
+  | inr second ↦
+      let both = both_true (adds_two plan state one two) _ second in
+      let now = two_allowed plan state one two within both.0 in
+      rw (now.0, now.1) (steps_allowed plan rest (after_entry plan (after_entry plan state one) two) (two_within plan state one two within both.0) both.1)
+  ]

@@ -144,3 +144,20 @@ module _ (users : Users) (n : ℕ) (s : Scenario) (t : ℕ) where
         ]
       ]
     ]
+
+  -- a user is grown where the scenario may hold more and one more may be made; it is the next number
+  pub grow_answer : (user slot : ℕ) → In (GrowAndStart user slot) (answers s users t) →
+    (user ≡ users.made + 1) × ((may_hold_more s && nat_lt users.made users.limit) ≡ true)
+  grow_answer user slot h = elim (In-cond (has_ended s t) (GrowAndStart user slot) (CountLate ∷ []) _ h) [
+      inl at ↦ let same = In-one (GrowAndStart user slot) CountLate at.1 in absurd (cc)
+    | inr at ↦ elim (In-cond (is_some (first_of (idle_users s.share))) (GrowAndStart user slot) (map (λ (u : HeldUser). StartOn u.user) (idle_users s.share)) _ at.1) [
+        inl on ↦ let found = In-map (λ (u : HeldUser). StartOn u.user) (GrowAndStart user slot) (idle_users s.share) on.1 in absurd (cc)
+      | inr no_idle ↦ elim (In-cond (may_hold_more s && nat_lt users.made users.limit) (GrowAndStart user slot) (GrowAndStart (users.made + 1) (held_count s.share) ∷ []) _ no_idle.1) [
+          inl grown ↦ let same = In-one (GrowAndStart user slot) (GrowAndStart (users.made + 1) (held_count s.share)) grown.1 in (cc, grown.0)
+        | inr no_grow ↦ elim (In-cond (may_hold_more s && is_some (first_of users.free)) (GrowAndStart user slot) (map (λ user. TakeAndStart user (held_count s.share)) users.free) (DropArrival ∷ []) no_grow.1) [
+            inl taken ↦ let found = In-map (λ user. TakeAndStart user (held_count s.share)) (GrowAndStart user slot) users.free taken.1 in absurd (cc)
+          | inr dropped ↦ let same = In-one (GrowAndStart user slot) DropArrival dropped.1 in absurd (cc)
+          ]
+        ]
+      ]
+    ]
