@@ -1,5 +1,5 @@
 -- Elements of lists, and what tests, filters and maps make of them.
-use Rattle.std.proofs.Common.{◌≡◌, ◌≢◌, ◌<◌, ◌≤◌, ◌+◌, ℕ, suc, zero, Bool, true, false, not, cond, ◌&&◌, ◌||◌, List, [], ◌∷◌, ◌++◌, ◌⊎◌, inl, inr, get_or, length, map, arith, refl, sym, ap, subst, filter, flat_map, filter_map, Option, Some, None, Contains, slice_get}
+use Rattle.std.proofs.Common.{◌≡◌, ◌<◌, ◌+◌, ℕ, suc, zero, Bool, true, false, cond, ◌&&◌, ◌||◌, List, [], ◌∷◌, ◌++◌, ◌⊎◌, inl, inr, get_or, length, map, arith, refl, sym, subst, filter, flat_map, filter_map, Option, Some, None, slice_get}
 use Rattle.std.specs.List.{list_any, list_all, enumerate_from, cons_option}
 use Rattle.std.proofs.lemmas.Grind.{common_steps}
 
@@ -23,10 +23,10 @@ some_true false b h = inr h
 pub In-from_any : {A : Type 0} (p : A → Bool) (xs : List A) → list_any p xs ≡ true → (x : A) × In x xs × (p x ≡ true)
 In-from_any p [] h = absurd (cc)
 In-from_any p (x ∷ xs) h =
-  elim (some_true (p x) (list_any p xs) h) [
-    inl now ↦ (x, here, now)
-  | inr later ↦ let found = In-from_any p xs later in (found.0, there found.1, found.2)
-  ]
+    elim (some_true (p x) (list_any p xs) h) [
+      | inl now ↦ (x, here, now)
+      | inr later ↦ let found = In-from_any p xs later in (found.0, there found.1, found.2)
+    ]
 
 -- and the other way round
 pub any-from_In : {A : Type 0} (p : A → Bool) (x : A) {xs : List A} → In x xs → p x ≡ true → list_any p xs ≡ true
@@ -34,7 +34,7 @@ any-from_In p x here h = rw h refl
 any-from_In p x (there {y = y} more) h = let later = any-from_In p x more h in grind (arith, common_steps, later)
 
 In-filter-head : {A : Type 0} (p : A → Bool) (x y : A) (xs : List A) → p y ≡ true → (In x (filter p xs) → In x xs × (p x ≡ true)) →
-  In x (y ∷ filter p xs) → In x (y ∷ xs) × (p x ≡ true)
+    In x (y ∷ filter p xs) → In x (y ∷ xs) × (p x ≡ true)
 In-filter-head p x y xs passes more here = (here, passes)
 In-filter-head p x y xs passes more (there kept) = let found = more kept in (there found.0, found.1)
 
@@ -42,19 +42,19 @@ In-filter-head p x y xs passes more (there kept) = let found = more kept in (the
 pub In-filter : {A : Type 0} (p : A → Bool) (x : A) (xs : List A) → In x (filter p xs) → In x xs × (p x ≡ true)
 In-filter p x [] h = elim h [ ]
 In-filter p x (y ∷ xs) h =
-  let P : Bool → Type 0 = λ b. (p y ≡ b) → In x (cond b (y ∷ filter p xs) (filter p xs)) → In x (y ∷ xs) × (p x ≡ true)
-  in let found : P (p y) = elim (p y) as P [
-      true ↦ λ passes kept. In-filter-head p x y xs passes (In-filter p x xs) kept
-    | false ↦ λ fails kept. let more = In-filter p x xs kept in (there more.0, more.1)
+    let P : Bool → Type 0 = λ b. (p y ≡ b) → In x (cond b (y ∷ filter p xs) (filter p xs)) → In x (y ∷ xs) × (p x ≡ true)
+    in let found : P (p y) = elim (p y) as P [
+      | true ↦ λ passes kept. In-filter-head p x y xs passes (In-filter p x xs) kept
+      | false ↦ λ fails kept. let more = In-filter p x xs kept in (there more.0, more.1)
     ]
-  in found refl h
+    in found refl h
 
 -- what passes is kept
 pub filter-In : {A : Type 0} (p : A → Bool) (x : A) {xs : List A} → In x xs → p x ≡ true → In x (filter p xs)
 filter-In p x (here {xs = xs}) h = rw h here
 filter-In p x (there {y = y} {xs = xs} more) h =
-  let P : Bool → Type 0 = λ b. In x (cond b (y ∷ filter p xs) (filter p xs))
-  in elim (p y) as P [ true ↦ there (filter-In p x more h) | false ↦ filter-In p x more h ]
+    let P : Bool → Type 0 = λ b. In x (cond b (y ∷ filter p xs) (filter p xs))
+    in elim (p y) as P [ true ↦ there (filter-In p x more h) | false ↦ filter-In p x more h ]
 
 -- an element of a map is the image of one
 pub In-map : {A B : Type 0} (f : A → B) (y : B) (xs : List A) → In y (map f xs) → (x : A) × In x xs × (f x ≡ y)
@@ -67,16 +67,16 @@ pub In-append : {A : Type 0} (x : A) (xs ys : List A) → In x (xs ++ ys) → In
 In-append x [] ys h = inr h
 In-append x (y ∷ xs) ys here = inl here
 In-append x (y ∷ xs) ys (there more) =
-  elim (In-append x xs ys more) [ inl first ↦ inl (there first) | inr second ↦ inr second ]
+    elim (In-append x xs ys more) [ inl first ↦ inl (there first) | inr second ↦ inr second ]
 
 -- an element of what each element gives comes from one
 pub In-flat_map : {A B : Type 0} (f : A → List B) (y : B) (xs : List A) → In y (flat_map f xs) → (x : A) × In x xs × In y (f x)
 In-flat_map f y [] h = elim h [ ]
 In-flat_map f y (x ∷ xs) h =
-  elim (In-append y (f x) (flat_map f xs) h) [
-    inl now ↦ (x, here, now)
-  | inr later ↦ let found = In-flat_map f y xs later in (found.0, there found.1, found.2)
-  ]
+    elim (In-append y (f x) (flat_map f xs) h) [
+      | inl now ↦ (x, here, now)
+      | inr later ↦ let found = In-flat_map f y xs later in (found.0, there found.1, found.2)
+    ]
 
 -- an element by its place is one
 pub In-from_Contains : {A : Type 0} (x : A) (xs : List A) (k : ℕ) → k < length xs → get_or xs k x ≡ x → In x xs
@@ -89,8 +89,8 @@ pub nothing_in : {A : Type 0} {x : A} → In x [] → ⊥
 nothing_in h = elim h [ ]
 
 In-filter_map-head : {A B : Type 0} (f : A → Option B) (x : A) (y z : B) (xs : List A) → f x ≡ Some z →
-  (In y (filter_map f xs) → (x' : A) × In x' xs × (f x' ≡ Some y)) →
-  In y (z ∷ filter_map f xs) → (x' : A) × In x' (x ∷ xs) × (f x' ≡ Some y)
+    (In y (filter_map f xs) → (x' : A) × In x' xs × (f x' ≡ Some y)) →
+    In y (z ∷ filter_map f xs) → (x' : A) × In x' (x ∷ xs) × (f x' ≡ Some y)
 In-filter_map-head f x y z xs e more here = (x, here, e)
 In-filter_map-head f x y z xs e more (there h) = let later = more h in (later.0, there later.1, later.2)
 
@@ -98,21 +98,21 @@ In-filter_map-head f x y z xs e more (there h) = let later = more h in (later.0,
 pub In-filter_map : {A B : Type 0} (f : A → Option B) (y : B) (xs : List A) → In y (filter_map f xs) → (x : A) × In x xs × (f x ≡ Some y)
 In-filter_map {A} {B} f y [] h = elim h [ ]
 In-filter_map {A} {B} f y (x ∷ xs) h =
-  let P : Option B → Type 0 = λ o. (f x ≡ o) → In y (cons_option o (filter_map f xs)) → (x' : A) × In x' (x ∷ xs) × (f x' ≡ Some y) in
-  let found : P (f x) = elim (f x) as P [
-    None ↦ λ e more. let later = In-filter_map f y xs more in (later.0, there later.1, later.2)
-  | Some z ↦ λ e more. In-filter_map-head f x y z xs e (In-filter_map f y xs) more
-  ] in found refl h
+    let P : Option B → Type 0 = λ o. (f x ≡ o) → In y (cons_option o (filter_map f xs)) → (x' : A) × In x' (x ∷ xs) × (f x' ≡ Some y) in
+    let found : P (f x) = elim (f x) as P [
+      | None ↦ λ e more. let later = In-filter_map f y xs more in (later.0, there later.1, later.2)
+      | Some z ↦ λ e more. In-filter_map-head f x y z xs e (In-filter_map f y xs) more
+    ] in found refl h
 
 -- an element with its number stands at that place
 pub In-enumerate : {A : Type 0} (k : ℕ) (p : ℕ × A) (xs : List A) → In p (enumerate_from k xs) →
-  In p.1 xs × ((j : ℕ) × (p.0 ≡ k + j) × (slice_get xs j ≡ Some p.1))
+    In p.1 xs × ((j : ℕ) × (p.0 ≡ k + j) × (slice_get xs j ≡ Some p.1))
 In-enumerate k p [] h = elim h [ ]
 In-enumerate k p (y ∷ ys) here = (here, (0, omega arith, refl))
 In-enumerate k p (y ∷ ys) (there more) =
-  let later = In-enumerate (k + 1) p ys more in
-  let place : p.0 ≡ k + suc later.1.0 = let e : p.0 ≡ (k + 1) + later.1.0 = later.1.1 in omega arith in
-  (there later.0, (suc later.1.0, place, later.1.2))
+    let later = In-enumerate (k + 1) p ys more in
+    let place : p.0 ≡ k + suc later.1.0 = let e : p.0 ≡ (k + 1) + later.1.0 = later.1.1 in omega arith in
+    (there later.0, (suc later.1.0, place, later.1.2))
 
 -- each element passes a test that all pass
 pub all_at : {A : Type 0} (p : A → Bool) (x : A) {xs : List A} → In x xs → list_all p xs ≡ true → p x ≡ true

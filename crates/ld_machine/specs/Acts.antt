@@ -1,8 +1,7 @@
 -- The entries' acts that each act of the pool writes, and the reply that names it.
 use Rattle.std.specs.Prelude.{ℕ, Bool, true, false, List, [], ◌∷◌, count_by, length}
-use Rattle.ld_base.specs.Stint.{stint_of}
 use Rattle.ld_base.specs.declared.act.Act.{Act}
-use Rattle.ld_base.specs.declared.act.Act.TheVariants.{Take, Grow, Start, Drop, Late, Return, Release, Stop, Close, Control}
+use Rattle.ld_base.specs.declared.act.Act.TheVariants.{Take, Grow, Start, Drop, Late, Release, Stop, Close}
 use Rattle.ld_machine.specs.Moves.{Answer, CountLate, StartOn, GrowAndStart, TakeAndStart, DropArrival, Move, StopScenario, ReleaseUser, TakeUser, AnswerArrival, StartIteration, DropIteration, CloseScenario}
 
 -- what the answer to an arrival writes: two acts where a user is grown or taken for it

@@ -3,7 +3,7 @@ use Rattle.std.specs.Prelude.{ℕ, Bool, true, not, ◌||◌, nat_lt, map, if◌
 use Rattle.ld_base.specs.declared.command.Command.{Command}
 use Rattle.ld_base.specs.declared.command.Command.TheVariants.{Pause, Stop, Vus, VusMax}
 use Rattle.ld_machine.specs.Plan.{Plan}
-use Rattle.ld_machine.specs.State.{StartsNothing, Share, Controls, State, opening_controls}
+use Rattle.ld_machine.specs.State.{StartsNothing, Share, State, opening_controls}
 use Rattle.ld_machine.specs.Wait.{is_external_open}
 
 -- the greatest `vus-max` that may be commanded: the option `maxVUs` of the externally controlled scenario

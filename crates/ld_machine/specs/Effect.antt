@@ -1,5 +1,5 @@
 -- What entries do to the state.
-use Rattle.std.specs.Prelude.{ℕ, Bool, true, not, zero, suc, ◌+◌, ◌==◌, nat_lt, List, [], ◌∷◌, ◌++◌, map, filter, fold, length, Option, slice_get, if◌then◌else◌}
+use Rattle.std.specs.Prelude.{ℕ, true, not, zero, suc, ◌+◌, ◌==◌, nat_lt, List, [], ◌∷◌, ◌++◌, map, filter, length, slice_get, if◌then◌else◌}
 use Rattle.std.specs.List.{list_any}
 use Rattle.std.specs.Option.{option_map_or}
 use Rattle.ld_base.specs.declared.act.Act.{Act}
@@ -35,7 +35,7 @@ let_go user share = record share { held = filter (λ (h : HeldUser). not (h.user
 -- the item isn't open any more, where it is an owned one
 abbrev pub end_item : Part → ℕ → Share → Share
 end_item part item share =
-  if list_any (λ k. k == item) (owned_items part.executor) then record share { ended = share.ended ++ item ∷ [] } else share
+    if list_any (λ k. k == item) (owned_items part.executor) then record share { ended = share.ended ++ item ∷ [] } else share
 
 -- ---- what they do to the state
 
@@ -52,19 +52,19 @@ change_share state n change = record state { shares = change_at n change state.s
 -- the state with an item of a scenario ended
 abbrev pub end_item_of : Plan → ℕ → ℕ → State → State
 end_item_of plan n item state =
-  option_map_or (λ part. change_share state n (end_item part item)) (slice_get plan.parts n) state
+    option_map_or (λ part. change_share state n (end_item part item)) (slice_get plan.parts n) state
 
 -- the state behind an act of a thread at the reading t, its entry aside
 abbrev pub after_act : Plan → State → ℕ → ℕ → Act → State
 after_act plan state thread t (Take n user slot) = change_share state n (hold user slot)
 after_act plan state thread t (Grow n user slot) =
-  change_share (record state { made = state.made + 1 }) n (hold user slot)
+    change_share (record state { made = state.made + 1 }) n (hold user slot)
 after_act plan state thread t (Start n user item until) =
-  end_item_of plan n item (change_share state n (put_condition user (Busy thread item until)))
+    end_item_of plan n item (change_share state n (put_condition user (Busy thread item until)))
 after_act plan state thread t (Drop n item) = end_item_of plan n item state
 after_act plan state thread t (Late n item) = end_item_of plan n item state
 after_act plan state thread t (Return n user item outcome tally) =
-  change_share (record state { samples = state.samples + length tally.samples }) n (put_condition user Idle)
+    change_share (record state { samples = state.samples + length tally.samples }) n (put_condition user Idle)
 after_act plan state thread t (Release n user) = change_share state n (let_go user)
 after_act plan state thread t (Stop n) = change_share state n (λ share. record share { level = Halted })
 after_act plan state thread t (Close n) = change_share state n (λ share. record share { closed = true })

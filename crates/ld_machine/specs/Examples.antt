@@ -2,10 +2,10 @@
 use Rattle.std.specs.Prelude.{ℕ, ◌+◌, ◌-◌, ◌==◌, not, List, [], ◌∷◌, map, filter, swap, if◌then◌else◌}
 use Rattle.ld_base.specs.Tally.{TallyView}
 use Rattle.ld_base.specs.declared.act.Act.{Act}
-use Rattle.ld_base.specs.declared.act.Act.TheVariants.{Take, Grow, Start, Drop, Late, Return, Release, Stop, Close, Control}
+use Rattle.ld_base.specs.declared.act.Act.TheVariants.{Take, Grow, Start, Drop, Return, Release, Close}
 use Rattle.ld_base.specs.declared.act.Outcome.TheVariants.{Done, Interrupted}
 use Rattle.ld_base.specs.declared.entry.Entry.{Entry}
-use Rattle.ld_machine.specs.Plan.{SlotItem, Arrival, Executor, SharedIterations, PerVuIterations, ConstantVus, ArrivalRate, Part, Plan}
+use Rattle.ld_machine.specs.Plan.{Arrival, Executor, SharedIterations, PerVuIterations, ConstantVus, ArrivalRate, Plan}
 
 -- a line of a journal: its turn, its thread, its reading and its act
 abbrev pub line : ℕ → ℕ → ℕ → Act → Entry
@@ -18,15 +18,15 @@ no_samples = record { samples = []; room = 0 }
 -- the plan of one scenario from 0 on, whose script makes no samples
 abbrev pub plan_of : ℕ → ℕ → ℕ → Executor → ℕ → ℕ → Plan
 plan_of end_moment grace_span items_of_whole how users most =
-  record {
-    parts =
-      record { begin = 0; end = end_moment; grace = grace_span; sample_room = 0; whole_items = items_of_whole; executor = how }
-        ∷ [];
-    planned = users;
-    limit = most;
-    entry_limit = 1000000;
-    names = []
-  }
+    record {
+      parts =
+          record { begin = 0; end = end_moment; grace = grace_span; sample_room = 0; whole_items = items_of_whole; executor = how }
+          ∷ [];
+      planned = users;
+      limit = most;
+      entry_limit = 1000000;
+      names = [];
+    }
 
 -- ---- `constant-arrival-rate`: two arrivals in one second, and one user allocated
 
@@ -40,7 +40,7 @@ arrival_plan most = plan_of 1000000000 30000000000 2 (ArrivalRate 1 most two_arr
 -- with one user at most the second arrival is dropped
 abbrev pub arrival_dropped : List Entry
 arrival_dropped =
-  line 1 0 0 (Take 0 1 0)
+    line 1 0 0 (Take 0 1 0)
     ∷ line 2 0 0 (Start 0 1 0 31000000000)
     ∷ line 3 0 500000000 (Drop 0 1)
     ∷ line 4 0 1000000000 (Return 0 1 0 Done no_samples)
@@ -51,7 +51,7 @@ arrival_dropped =
 -- with two users at most a user is grown for it
 abbrev pub arrival_grown : List Entry
 arrival_grown =
-  line 1 0 0 (Take 0 1 0)
+    line 1 0 0 (Take 0 1 0)
     ∷ line 2 0 0 (Start 0 1 0 31000000000)
     ∷ line 3 0 500000000 (Grow 0 2 1)
     ∷ line 4 0 500000000 (Start 0 2 1 31000000000)
@@ -66,14 +66,14 @@ arrival_grown =
 
 abbrev pub per_vu_plan : Plan
 per_vu_plan =
-  plan_of 3000000000 30000000000 3
+    plan_of 3000000000 30000000000 3
     (PerVuIterations (0 ∷ []) (record { item = 0; slot = 0 } ∷ record { item = 1; slot = 0 } ∷ record { item = 2; slot = 0 } ∷ []))
     1 1
 
 -- with iterations of two seconds the third is dropped
 abbrev pub per_vu_dropped : List Entry
 per_vu_dropped =
-  line 1 0 0 (Take 0 1 0)
+    line 1 0 0 (Take 0 1 0)
     ∷ line 2 0 0 (Start 0 1 0 33000000000)
     ∷ line 3 0 2000000000 (Return 0 1 0 Done no_samples)
     ∷ line 4 0 2000000000 (Start 0 1 1 33000000000)
@@ -91,7 +91,7 @@ constant_plan = plan_of 1000000000 500000000 0 (ConstantVus (0 ∷ [])) 1 1
 -- an iteration of a second and a half is done in time
 abbrev pub constant_done : List Entry
 constant_done =
-  line 1 0 0 (Take 0 1 0)
+    line 1 0 0 (Take 0 1 0)
     ∷ line 2 0 0 (Start 0 1 0 1500000000)
     ∷ line 3 0 1500000000 (Return 0 1 0 Done no_samples)
     ∷ line 4 0 1500000000 (Release 0 1)
@@ -101,7 +101,7 @@ constant_done =
 -- a longer one is interrupted
 abbrev pub constant_interrupted : List Entry
 constant_interrupted =
-  line 1 0 0 (Take 0 1 0)
+    line 1 0 0 (Take 0 1 0)
     ∷ line 2 0 0 (Start 0 1 0 1500000000)
     ∷ line 3 0 1500000000 (Return 0 1 0 Interrupted no_samples)
     ∷ line 4 0 1500000000 (Release 0 1)
@@ -116,7 +116,7 @@ shared_plan = plan_of 600000000000 30000000000 5 (SharedIterations 2 (0 ∷ 1 �
 -- with iterations of one second
 abbrev pub shared_done : List Entry
 shared_done =
-  line 1 0 0 (Take 0 1 0)
+    line 1 0 0 (Take 0 1 0)
     ∷ line 2 0 0 (Take 0 2 1)
     ∷ line 3 0 0 (Start 0 1 0 630000000000)
     ∷ line 4 0 0 (Start 0 2 1 630000000000)

@@ -1,17 +1,17 @@
 -- Further worked examples: ramping users, two scenarios, late arrivals, a full journal, and control.
-use Rattle.std.specs.Prelude.{ℕ, true, List, [], ◌∷◌}
+use Rattle.std.specs.Prelude.{ℕ, List, [], ◌∷◌}
 use Rattle.ld_base.specs.declared.act.Act.TheVariants.{Take, Start, Late, Return, Release, Stop, Close, Control}
 use Rattle.ld_base.specs.declared.act.Outcome.TheVariants.{Done, Interrupted}
 use Rattle.ld_base.specs.declared.command.Command.TheVariants as commands
 use Rattle.ld_base.specs.declared.entry.Entry.{Entry}
-use Rattle.ld_machine.specs.Plan.{Interval, RampingSlot, Executor, ConstantVus, RampingVus, ExternallyControlled, Part, Plan}
+use Rattle.ld_machine.specs.Plan.{RampingSlot, ConstantVus, RampingVus, ExternallyControlled, Part, Plan}
 use Rattle.ld_machine.specs.Examples.{line, no_samples, plan_of}
 
 -- ---- `ramping-vus`: from 0 to 2 users in ten seconds, and back to 0 in ten seconds
 
 abbrev pub ramping_slots : List RampingSlot
 ramping_slots =
-  record { slot = 0; intervals = record { on = 5000000000; off = 20000000000 } ∷ [] }
+    record { slot = 0; intervals = record { on = 5000000000; off = 20000000000 } ∷ [] }
     ∷ record { slot = 1; intervals = record { on = 10000000000; off = 15000000000 } ∷ [] }
     ∷ []
 
@@ -23,7 +23,7 @@ ramping_plan = plan_of 20000000000 30000000000 0 (RampingVus 30000000000 ramping
 -- released as soon as it is idle
 abbrev pub ramping_done : List Entry
 ramping_done =
-  line 1 0 5000000000 (Take 0 1 0)
+    line 1 0 5000000000 (Take 0 1 0)
     ∷ line 2 0 5000000000 (Start 0 1 0 50000000000)
     ∷ line 3 0 10000000000 (Take 0 2 1)
     ∷ line 4 0 10000000000 (Start 0 2 1 45000000000)
@@ -40,23 +40,23 @@ ramping_done =
 
 abbrev pub constant_part : ℕ → ℕ → ℕ → Part
 constant_part from to grace_span =
-  record { begin = from; end = to; grace = grace_span; sample_room = 0; whole_items = 0; executor = ConstantVus (0 ∷ 1 ∷ []) }
+    record { begin = from; end = to; grace = grace_span; sample_room = 0; whole_items = 0; executor = ConstantVus (0 ∷ 1 ∷ []) }
 
 -- the first is over, with its grace, when the second begins
 abbrev pub two_plan : Plan
 two_plan =
-  record {
-    parts = constant_part 0 10000000000 5000000000 ∷ constant_part 15000000000 16000000000 30000000000 ∷ [];
-    planned = 2;
-    limit = 2;
-    entry_limit = 1000000;
-    names = []
-  }
+    record {
+      parts = constant_part 0 10000000000 5000000000 ∷ constant_part 15000000000 16000000000 30000000000 ∷ [];
+      planned = 2;
+      limit = 2;
+      entry_limit = 1000000;
+      names = [];
+    }
 
 -- with iterations of eight seconds: the last two of the first scenario are interrupted
 abbrev pub two_done : List Entry
 two_done =
-  line 1 0 0 (Take 0 1 0)
+    line 1 0 0 (Take 0 1 0)
     ∷ line 2 0 0 (Take 0 2 1)
     ∷ line 3 0 0 (Start 0 1 0 15000000000)
     ∷ line 4 0 0 (Start 0 2 1 15000000000)
@@ -93,7 +93,7 @@ full_plan = record (plan_of 10000000000 30000000000 0 (ConstantVus (0 ∷ [])) 1
 -- with iterations of one second: nine entries, and a fifth iteration with its Return has no place
 abbrev pub full_lines : List Entry
 full_lines =
-  line 1 0 0 (Take 0 1 0)
+    line 1 0 0 (Take 0 1 0)
     ∷ line 2 0 0 (Start 0 1 0 40000000000)
     ∷ line 3 0 1000000000 (Return 0 1 0 Done no_samples)
     ∷ line 4 0 1000000000 (Start 0 1 0 40000000000)
@@ -112,7 +112,7 @@ controlled_plan = plan_of 10000000000 0 0 (ExternallyControlled 1 3 (0 ∷ 1 ∷
 -- thread 1 commands a second user, and then a stop, behind which both iterations are cut off
 abbrev pub controlled_stopped : List Entry
 controlled_stopped =
-  line 1 0 0 (Take 0 1 0)
+    line 1 0 0 (Take 0 1 0)
     ∷ line 2 0 0 (Start 0 1 0 10000000000)
     ∷ line 3 1 1000000000 (Control (commands.Vus 2))
     ∷ line 4 0 1000000000 (Take 0 2 1)

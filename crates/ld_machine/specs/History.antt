@@ -1,8 +1,8 @@
 -- Legal histories: entries of steps, one step after another from the opening state.
-use Rattle.std.specs.Prelude.{◌≡◌, ℕ, Bool, true, false, not, ◌&&◌, ◌||◌, ◌==◌, List, [], ◌∷◌, take, length, Option, None, Some, find, unwrap_or, IsTrue, slice_get, if◌then◌else◌}
+use Rattle.std.specs.Prelude.{ℕ, Bool, true, false, not, ◌&&◌, ◌||◌, ◌==◌, List, [], ◌∷◌, take, length, Option, None, Some, find, unwrap_or, IsTrue, slice_get, if◌then◌else◌}
 use Rattle.std.specs.List.{list_any, range_with_len}
 use Rattle.std.specs.Option.{option_map_or, option_or}
-use Rattle.ld_base.specs.Stint.{StintView, stint_of}
+use Rattle.ld_base.specs.Stint.{stint_of}
 use Rattle.ld_base.specs.declared.act.Act.{Act}
 use Rattle.ld_base.specs.declared.act.Act.TheVariants.{Return, Control}
 use Rattle.ld_base.specs.declared.act.Outcome.{Outcome}
@@ -11,7 +11,7 @@ use Rattle.ld_base.specs.declared.ask.Ask.{Ask}
 use Rattle.ld_base.specs.declared.ask.Ask.TheVariants as asks
 use Rattle.ld_base.specs.declared.entry.Entry.{Entry}
 use Rattle.ld_machine.specs.Plan.{Plan}
-use Rattle.ld_machine.specs.State.{Condition, Idle, Busy, HeldUser, Share, State, opening}
+use Rattle.ld_machine.specs.State.{HeldUser, Share, State, opening}
 use Rattle.ld_machine.specs.Wait.{busy_until}
 use Rattle.ld_machine.specs.Effect.{after_entry}
 use Rattle.ld_machine.specs.Same.{same_entry, same_entries}
@@ -22,7 +22,7 @@ use Rattle.ld_machine.specs.Step.{Result, results}
 -- until when a user's iteration may last, and 0 where it isn't busy
 abbrev pub until_in : State → ℕ → ℕ → ℕ
 until_in state n user =
-  option_map_or
+    option_map_or
     (λ (share : Share). option_map_or (λ (h : HeldUser). unwrap_or (busy_until h.condition) 0) (find (λ h. h.user == user) share.held) 0)
     (slice_get state.shares n)
     0
@@ -35,7 +35,7 @@ is_done Interrupted = false
 -- the ask that a step answers which adds this act
 abbrev pub ask_for : State → Act → Ask
 ask_for state (Return n user item outcome tally) =
-  asks.Return (stint_of n user item (until_in state n user)) (is_done outcome) tally
+    asks.Return (stint_of n user item (until_in state n user)) (is_done outcome) tally
 ask_for state (Control command) = asks.Control command
 ask_for state _ = asks.Act
 
@@ -58,7 +58,7 @@ abbrev pub are_steps : Plan → State → List Entry → Bool
 are_steps plan state [] = true
 are_steps plan state (one ∷ []) = adds_one plan state one
 are_steps plan state (one ∷ two ∷ rest) =
-  (adds_one plan state one && are_steps plan (after_entry plan state one) (two ∷ rest))
+    (adds_one plan state one && are_steps plan (after_entry plan state one) (two ∷ rest))
     || (adds_two plan state one two && are_steps plan (after_entry plan (after_entry plan state one) two) rest)
 
 -- a history is legal where its entries are those of steps from the opening state on
@@ -85,7 +85,7 @@ abbrev pub are_front : Plan → State → List Entry → Bool
 are_front plan state [] = true
 are_front plan state (one ∷ []) = adds_one plan state one || begins_two plan state one
 are_front plan state (one ∷ two ∷ rest) =
-  (adds_one plan state one && are_front plan (after_entry plan state one) (two ∷ rest))
+    (adds_one plan state one && are_front plan (after_entry plan state one) (two ∷ rest))
     || (adds_two plan state one two && are_front plan (after_entry plan (after_entry plan state one) two) rest)
 
 -- the entries are the front of a legal history
@@ -100,4 +100,4 @@ first_beyond plan history = find (λ n. not (is_front plan (take n history))) (r
 -- entry, where the history ends between two entries of one step; none where the history is legal
 abbrev pub first_illegal : Plan → List Entry → Option ℕ
 first_illegal plan history =
-  option_or (first_beyond plan history) (if is_legal plan history then None else Some (length history))
+    option_or (first_beyond plan history) (if is_legal plan history then None else Some (length history))

@@ -33,12 +33,12 @@ last_reading since (entry ∷ rest) = last_reading entry.reading rest
 abbrev pub on_time_from : Plan → State → List Entry → ℕ → Bool
 on_time_from plan state [] t = nobody_overdue state t
 on_time_from plan state (entry ∷ rest) t =
-  (not (is_asked_act entry.act) || nobody_overdue state entry.reading) && on_time_from plan (after_entry plan state entry) rest t
+    (not (is_asked_act entry.act) || nobody_overdue state entry.reading) && on_time_from plan (after_entry plan state entry) rest t
 
 -- a history and a reading t behind it are on time
 abbrev pub is_on_time : Plan → List Entry → ℕ → Bool
 is_on_time plan history t =
-  readings_rise 0 history && nat_le (last_reading 0 history) t && on_time_from plan (opening plan) history t
+    readings_rise 0 history && nat_le (last_reading 0 history) t && on_time_from plan (opening plan) history t
 
 abbrev pub IsOnTime : Plan → List Entry → ℕ → Type 0
 IsOnTime plan history t = IsTrue (is_on_time plan history t)

@@ -68,9 +68,9 @@ off_moment part interval = moment_after part.begin interval.off
 -- behind that, but at most the scenario's hard moment; else the scenario's hard moment
 abbrev pub interval_hard_moment : Part → ℕ → Interval → ℕ
 interval_hard_moment part ramp_grace interval =
-  if nat_lt (off_moment part interval) part.end
-  then min (moment_after (off_moment part interval) ramp_grace) (hard_moment part)
-  else hard_moment part
+    if nat_lt (off_moment part interval) part.end
+    then min (moment_after (off_moment part interval) ramp_grace) (hard_moment part)
+    else hard_moment part
 
 -- when an arrival is due, counted from the run's start
 abbrev pub due_moment : Part → Arrival → ℕ

@@ -1,10 +1,9 @@
 -- Rehearsed histories: what one thread plays in virtual time, with iterations of one length.
-use Rattle.std.specs.Prelude.{◌≡◌, ◌≢◌, ℕ, ◌<◌, ◌≤◌, ◌⊎◌, Bool, true, false, not, ◌&&◌, ◌||◌, ◌==◌, nat_le, nat_lt, List, [], ◌∷◌, Option, None, Some, min, find, IsTrue, IsSome, length, ⊤}
+use Rattle.std.specs.Prelude.{◌≡◌, ℕ, ◌<◌, ◌≤◌, ◌⊎◌, Bool, true, false, not, ◌&&◌, ◌||◌, ◌==◌, nat_le, nat_lt, List, [], ◌∷◌, min, find, IsTrue, IsSome, length}
 use Rattle.std.specs.List.{list_all}
 use Rattle.std.specs.Option.{option_map_or}
 use Rattle.ld_base.specs.declared.act.Act.{Act}
 use Rattle.ld_base.specs.declared.act.Act.TheVariants.{Start, Return, Control}
-use Rattle.ld_base.specs.declared.act.Outcome.{Outcome}
 use Rattle.ld_base.specs.declared.entry.Entry.{Entry}
 use Rattle.ld_machine.specs.Moment.{moment_after}
 use Rattle.ld_machine.specs.Plan.{Plan}
@@ -12,7 +11,7 @@ use Rattle.ld_machine.specs.State.{State, opening}
 use Rattle.ld_machine.specs.Moves.{Move, enabled}
 use Rattle.ld_machine.specs.Order.{first_moves}
 use Rattle.ld_machine.specs.Room.{room_refusal}
-use Rattle.ld_machine.specs.Effect.{after_entry, state_after}
+use Rattle.ld_machine.specs.Effect.{after_entry}
 use Rattle.ld_machine.specs.Same.{same_bool}
 use Rattle.ld_machine.specs.History.{is_done, IsLegal}
 use Rattle.ld_machine.specs.Settled.{is_its_return, is_turn_of}
@@ -44,13 +43,13 @@ is_done_as _ done = false
 
 abbrev pub returns_at : ℕ → ℕ → ℕ → Entry → Bool
 returns_at long start until entry =
-  (entry.reading == min (moment_after start long) until) && is_done_as entry.act (nat_le (moment_after start long) until)
+    (entry.reading == min (moment_after start long) until) && is_done_as entry.act (nat_le (moment_after start long) until)
 
 -- where an act is a Start at the reading `start`, the next Start or Return of its user in these
 -- entries is its Return, at the least of `start` plus `long` and its `until`
 abbrev pub is_returned_at : ℕ → ℕ → Act → List Entry → Bool
 is_returned_at long start (Start n user item until) rest =
-  option_map_or
+    option_map_or
     (λ (entry : Entry). is_its_return n user item entry.act && returns_at long start until entry)
     (find (λ (entry : Entry). is_turn_of user entry.act) rest)
     false
@@ -71,7 +70,7 @@ returned_user _ = 0
 -- a Return directly behind another entry of the same reading is behind a Return of a smaller user
 abbrev pub may_follow : Entry → Entry → Bool
 may_follow one two =
-  not (one.reading == two.reading) || not (is_return two.act)
+    not (one.reading == two.reading) || not (is_return two.act)
     || (is_return one.act && nat_lt (returned_user one.act) (returned_user two.act))
 
 -- among entries of one reading the Returns come first, in order of users
@@ -98,7 +97,7 @@ IsFullAt plan state t = (move : Move) × (rest : List Move) × (first_moves plan
 -- first act has no room
 abbrev pub IsFullBetween : Plan → State → ℕ → ℕ → Type 0
 IsFullBetween plan state from to =
-  (t : ℕ) × (from ≤ t) × (t < to) × NothingEnabled plan state from t × IsFullAt plan state t
+    (t : ℕ) × (from ≤ t) × (t < to) × NothingEnabled plan state from t × IsFullAt plan state t
 
 -- the same from `from` on
 abbrev pub IsFullFrom : Plan → State → ℕ → Type 0
@@ -108,7 +107,7 @@ IsFullFrom plan state from = (t : ℕ) × (from ≤ t) × NothingEnabled plan st
 -- no room for what is and the next entry is a Return
 abbrev pub WaitsBetween : Plan → State → ℕ → Entry → Type 0
 WaitsBetween plan state from next =
-  NothingEnabled plan state from next.reading
+    NothingEnabled plan state from next.reading
     ⊎ (IsFullBetween plan state from next.reading × IsTrue (is_return next.act))
 
 -- the same behind the last entry
@@ -119,14 +118,14 @@ WaitsBehind plan state from = NothingEnabledFrom plan state from ⊎ IsFullFrom 
 abbrev pub WaitsFrom : Plan → State → ℕ → List Entry → Type 0
 WaitsFrom plan state from [] = WaitsBehind plan state from
 WaitsFrom plan state from (entry ∷ rest) =
-  (from < entry.reading → WaitsBetween plan state from entry) × WaitsFrom plan (after_entry plan state entry) entry.reading rest
+    (from < entry.reading → WaitsBetween plan state from entry) × WaitsFrom plan (after_entry plan state entry) entry.reading rest
 
 -- a history comes as waiting has it: nothing is enabled before its first entry; and an empty one is
 -- what waiting from the moment 0 gives
 abbrev pub Waits : Plan → List Entry → Type 0
 Waits plan [] = WaitsBehind plan (opening plan) 0
 Waits plan (entry ∷ rest) =
-  NothingEnabled plan (opening plan) 0 entry.reading × WaitsFrom plan (after_entry plan (opening plan) entry) entry.reading rest
+    NothingEnabled plan (opening plan) 0 entry.reading × WaitsFrom plan (after_entry plan (opening plan) entry) entry.reading rest
 
 -- the history is one that a rehearsal with iterations of the length `long` plays
 pub record IsRehearsed (plan : Plan) (long : ℕ) (history : List Entry) : Type 0 where

@@ -1,5 +1,5 @@
 -- Room: whether a history has place left for an act, its iterations under way counted in.
-use Rattle.std.specs.Prelude.{ℕ, Bool, ◌&&◌, ◌+◌, ◌*◌, nat_lt, List, length, Option, None, Some, sum_by, slice_get, if◌then◌else◌}
+use Rattle.std.specs.Prelude.{ℕ, ◌+◌, ◌*◌, nat_lt, length, Option, None, Some, sum_by, slice_get, if◌then◌else◌}
 use Rattle.std.specs.Option.{option_map_or}
 use Rattle.ld_base.specs.declared.reply.Reply.{Reply}
 use Rattle.ld_base.specs.declared.reply.Reply.TheVariants.{Full}
@@ -30,16 +30,16 @@ samples_with plan state n = state.samples + busy_room plan state + script_room p
 -- why the history has no room for so many entries and busy users more, if it has none
 abbrev pub entries_refusal : Plan → State → ℕ → ℕ → Option Reply
 entries_refusal plan state added busy =
-  if nat_lt plan.entry_limit (entries_with state added busy)
-  then Some (Full Entries (entries_with state added busy) plan.entry_limit)
-  else None
+    if nat_lt plan.entry_limit (entries_with state added busy)
+    then Some (Full Entries (entries_with state added busy) plan.entry_limit)
+    else None
 
 -- why it has no room for the samples of an iteration of scenario n, if it has none
 abbrev pub samples_refusal : Plan → State → ℕ → Option Reply
 samples_refusal plan state n =
-  if nat_lt plan.entry_limit (samples_with plan state n)
-  then Some (Full Samples (samples_with plan state n) plan.entry_limit)
-  else None
+    if nat_lt plan.entry_limit (samples_with plan state n)
+    then Some (Full Samples (samples_with plan state n) plan.entry_limit)
+    else None
 
 -- the first, or else the second
 abbrev pub or_else : Option Reply → Option Reply → Option Reply
@@ -50,5 +50,5 @@ or_else (Some reply) other = Some reply
 -- samples where it starts an iteration
 abbrev pub room_refusal : Plan → State → Move → Option Reply
 room_refusal plan state move =
-  or_else (entries_refusal plan state (added_entries move) (made_busy move))
+    or_else (entries_refusal plan state (added_entries move) (made_busy move))
     (if nat_lt 0 (made_busy move) then samples_refusal plan state (scenario_of move) else None)

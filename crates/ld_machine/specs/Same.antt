@@ -1,5 +1,5 @@
 -- When two entries are the same, as a test that computes.
-use Rattle.std.specs.Prelude.{ℕ, Bool, true, false, not, ◌&&◌, ◌==◌, List, [], ◌∷◌}
+use Rattle.std.specs.Prelude.{Bool, true, false, not, ◌&&◌, ◌==◌, List, [], ◌∷◌}
 use Rattle.ld_base.specs.Tally.{TallyView}
 use Rattle.ld_base.specs.declared.act.Act.{Act}
 use Rattle.ld_base.specs.declared.act.Act.TheVariants.{Take, Grow, Start, Drop, Late, Return, Release, Stop, Close, Control}
@@ -28,7 +28,7 @@ same_command _ _ = false
 
 abbrev pub same_sample : Sample → Sample → Bool
 same_sample a b =
-  (a.name == b.name) && (a.status == b.status) && (a.span == b.span) && (a.sent == b.sent) && (a.received == b.received)
+    (a.name == b.name) && (a.status == b.status) && (a.span == b.span) && (a.sent == b.sent) && (a.received == b.received)
     && same_bool a.failed b.failed && (a.check_bits == b.check_bits)
 
 abbrev pub same_samples : List Sample → List Sample → Bool
@@ -43,11 +43,11 @@ abbrev pub same_act : Act → Act → Bool
 same_act (Take n user slot) (Take n' user' slot') = (n == n') && (user == user') && (slot == slot')
 same_act (Grow n user slot) (Grow n' user' slot') = (n == n') && (user == user') && (slot == slot')
 same_act (Start n user item until) (Start n' user' item' until') =
-  (n == n') && (user == user') && (item == item') && (until == until')
+    (n == n') && (user == user') && (item == item') && (until == until')
 same_act (Drop n item) (Drop n' item') = (n == n') && (item == item')
 same_act (Late n item) (Late n' item') = (n == n') && (item == item')
 same_act (Return n user item outcome tally) (Return n' user' item' outcome' tally') =
-  (n == n') && (user == user') && (item == item') && same_outcome outcome outcome' && same_tally tally tally'
+    (n == n') && (user == user') && (item == item') && same_outcome outcome outcome' && same_tally tally tally'
 same_act (Release n user) (Release n' user') = (n == n') && (user == user')
 same_act (Stop n) (Stop n') = n == n'
 same_act (Close n) (Close n') = n == n'

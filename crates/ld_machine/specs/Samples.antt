@@ -9,7 +9,7 @@ use Rattle.ld_base.specs.Tally.{TallyView}
 -- a sample has zeros outside `sent`
 abbrev pub is_addition : Sample → Bool
 is_addition sample =
-  (sample.status == 0) && (sample.span == 0) && (sample.received == 0) && not sample.failed && (sample.check_bits == 0)
+    (sample.status == 0) && (sample.span == 0) && (sample.received == 0) && not sample.failed && (sample.check_bits == 0)
 
 -- each check bit belongs to a check of the name, and a counter's sample has zeros outside `sent`
 abbrev pub is_sample_of : Sample → NameSpec → Bool

@@ -1,10 +1,10 @@
 -- One scenario of the pool: the cells of the table of acts, each for one reading.
-use Rattle.std.specs.Prelude.{ℕ, Bool, true, false, not, ◌&&◌, ◌||◌, ◌==◌, nat_le, nat_lt, List, [], ◌∷◌, Option, None, Some, filter, map, find, option_map, is_some, is_none, if◌then◌else◌}
+use Rattle.std.specs.Prelude.{ℕ, Bool, true, false, not, ◌&&◌, ◌||◌, ◌==◌, nat_le, nat_lt, List, [], ◌∷◌, Option, None, Some, filter, find, option_map, is_some, if◌then◌else◌}
 use Rattle.std.specs.List.{list_any}
 use Rattle.std.specs.Option.{option_map_or}
 use Rattle.ld_machine.specs.Moment.{moment_after}
 use Rattle.ld_machine.specs.Plan.{Interval, RampingSlot, SlotItem, Arrival, Executor, SharedIterations, PerVuIterations, ConstantVus, RampingVus, ArrivalRate, ExternallyControlled, Part, hard_moment, on_moment, off_moment, interval_hard_moment, due_moment, owned_items, owned_slots}
-use Rattle.ld_machine.specs.State.{Level, Runs, StartsNothing, Halted, HeldUser, Share, Controls, held_count}
+use Rattle.ld_machine.specs.State.{Level, Runs, StartsNothing, HeldUser, Share, Controls, held_count}
 
 -- one scenario as it stands: its part of the plan, its share of the state, and the controls
 pub record Scenario : Type 0 where
@@ -72,7 +72,7 @@ is_within part t interval = nat_le (on_moment part interval) t && nat_lt t (off_
 abbrev pub interval_at : Part → List RampingSlot → ℕ → ℕ → Option Interval
 interval_at part [] slot t = None
 interval_at part (r ∷ rest) slot t =
-  if r.slot == slot then find (is_within part t) r.intervals else interval_at part rest slot t
+    if r.slot == slot then find (is_within part t) r.intervals else interval_at part rest slot t
 
 -- a slot of `ramping-vus` is on where t is in one of its intervals
 abbrev pub is_slot_on : Scenario → List RampingSlot → ℕ → ℕ → Bool
@@ -126,7 +126,7 @@ executor_item_to_start (ConstantVus _) s slot t = where_holds (is_live s t) (Som
 executor_item_to_start (RampingVus _ slots) s slot t = where_holds (runs s && is_slot_on s slots slot t) (Some slot)
 executor_item_to_start (ArrivalRate _ _ _) s slot t = None
 executor_item_to_start (ExternallyControlled _ _ _) s slot t =
-  where_holds (is_live s t && not s.controls.paused && nat_lt slot s.controls.vus) (Some slot)
+    where_holds (is_live s t && not s.controls.paused && nat_lt slot s.controls.vus) (Some slot)
 
 -- the item that an idle user with this slot may start, if any; the kinds without items start the slot
 abbrev pub item_to_start : Scenario → ℕ → ℕ → Option ℕ
@@ -134,7 +134,7 @@ item_to_start s slot t = executor_item_to_start s.part.executor s slot t
 
 abbrev pub executor_until : Executor → Scenario → ℕ → ℕ → ℕ
 executor_until (RampingVus ramp_grace slots) s slot t =
-  option_map_or (interval_hard_moment s.part ramp_grace) (interval_at s.part slots slot t) (hard_moment s.part)
+    option_map_or (interval_hard_moment s.part ramp_grace) (interval_at s.part slots slot t) (hard_moment s.part)
 executor_until _ s slot t = hard_moment s.part
 
 -- until when an iteration may last that starts with this slot: up to the scenario's hard moment, and
@@ -175,7 +175,7 @@ executor_may_close _ s t = has_ended s t
 -- the scenario may close: with no user held, and at level 0 with no open item and at its time
 abbrev pub may_close : Scenario → ℕ → Bool
 may_close s t =
-  is_open s && holds_nobody s && (not (runs s) || (not (has_open_item s) && executor_may_close s.part.executor s t))
+    is_open s && holds_nobody s && (not (runs s) || (not (has_open_item s) && executor_may_close s.part.executor s t))
 
 -- ---- Arrivals
 

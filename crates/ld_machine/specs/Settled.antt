@@ -1,5 +1,5 @@
 -- Settled histories: everything is closed and given back, and every owned item ended once.
-use Rattle.std.specs.Prelude.{ℕ, Bool, true, false, not, ◌&&◌, ◌||◌, ◌==◌, List, [], ◌∷◌, Option, None, Some, find, filter_map, length, count_by, is_some, IsTrue, if◌then◌else◌}
+use Rattle.std.specs.Prelude.{ℕ, Bool, true, false, not, ◌&&◌, ◌||◌, ◌==◌, List, [], ◌∷◌, Option, None, Some, find, filter_map, length, count_by, IsTrue, if◌then◌else◌}
 use Rattle.std.specs.List.{list_all, list_any, enumerate_from}
 use Rattle.std.specs.Option.{option_map_or}
 use Rattle.ld_base.specs.declared.act.Act.{Act}
@@ -32,7 +32,7 @@ has_items _ = false
 -- the second list has each item of the first once, and no others
 abbrev pub has_each_once : List ℕ → List ℕ → Bool
 has_each_once owned items =
-  list_all (λ k. count_by (λ item. item == k) items == 1) owned && list_all (λ item. list_any (λ k. k == item) owned) items
+    list_all (λ k. count_by (λ item. item == k) items == 1) owned && list_all (λ item. list_any (λ k. k == item) owned) items
 
 -- each owned item of a scenario with items was started, dropped or counted late once, and no other was
 abbrev pub items_ended : List Entry → ℕ → Part → Bool
@@ -52,7 +52,7 @@ is_its_return n user item _ = false
 -- where an act is a Start, the next Start or Return of its user in these entries is its Return
 abbrev pub is_returned : Act → List Entry → Bool
 is_returned (Start n user item _) rest =
-  option_map_or (λ (entry : Entry). is_its_return n user item entry.act) (find (λ (entry : Entry). is_turn_of user entry.act) rest) false
+    option_map_or (λ (entry : Entry). is_its_return n user item entry.act) (find (λ (entry : Entry). is_turn_of user entry.act) rest) false
 is_returned _ rest = true
 
 -- each Start has one Return
@@ -67,7 +67,7 @@ nobody_held state = list_all (λ (share : Share). length share.held == 0) state.
 -- a history is settled
 abbrev pub is_settled : Plan → List Entry → Bool
 is_settled plan history =
-  all_closed (state_after plan history)
+    all_closed (state_after plan history)
     && list_all (λ (n, part). items_ended history n part) (enumerate_from 0 plan.parts)
     && all_returned history
     && nobody_held (state_after plan history)
@@ -85,7 +85,7 @@ is_unsettled s = is_open s || has_open_item s
 -- none is open
 abbrev pub unsettled : Plan → State → Option (ℕ × ℕ)
 unsettled plan state =
-  option_map_or
+    option_map_or
     (λ (n, s). Some (n, option_map_or (λ item. item) (least_open_item s) s.part.whole_items))
     (find (λ (n, s). is_unsettled s) (enumerate_from 0 (scenarios plan state)))
     None

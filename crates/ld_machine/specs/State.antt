@@ -1,5 +1,5 @@
 -- The state of the pool: the users that were made, each scenario's share, and what was commanded.
-use Rattle.std.specs.Prelude.{ℕ, Bool, true, false, not, ◌+◌, ◌==◌, List, [], ◌∷◌, Option, None, Some, map, filter, flat_map, length}
+use Rattle.std.specs.Prelude.{ℕ, Bool, true, false, not, ◌==◌, List, [], ◌∷◌, map, filter, flat_map, length}
 use Rattle.std.specs.List.{list_all, list_any, range_with_len}
 use Rattle.ld_machine.specs.Plan.{Executor, ExternallyControlled, Part, Plan}
 
@@ -105,11 +105,11 @@ opening_controls (part ∷ parts) = executor_controls part.executor (opening_con
 -- the state at the opening: the planned users are made and free, and every scenario is open
 abbrev pub opening : Plan → State
 opening plan =
-  record {
-    made = plan.planned;
-    shares = map (λ part. opening_share) plan.parts;
-    controls = opening_controls plan.parts;
-    stop_commanded = false;
-    entries = 0;
-    samples = 0
-  }
+    record {
+      made = plan.planned;
+      shares = map (λ part. opening_share) plan.parts;
+      controls = opening_controls plan.parts;
+      stop_commanded = false;
+      entries = 0;
+      samples = 0;
+    }

@@ -1,5 +1,5 @@
 -- A step: what an ask of a thread may give at a reading.
-use Rattle.std.specs.Prelude.{◌≡◌, ℕ, Bool, true, false, not, ◌&&◌, ◌||◌, ◌+◌, ◌==◌, nat_le, nat_lt, List, [], ◌∷◌, map, length, Option, None, Some, Contains, is_some, slice_get, if◌then◌else◌}
+use Rattle.std.specs.Prelude.{ℕ, Bool, true, false, ◌&&◌, ◌+◌, ◌==◌, nat_le, List, [], ◌∷◌, map, Contains, slice_get, if◌then◌else◌}
 use Rattle.std.specs.List.{list_any}
 use Rattle.std.specs.Option.{option_map_or}
 use Rattle.ld_base.specs.Stint.{StintView}
@@ -13,10 +13,9 @@ use Rattle.ld_base.specs.declared.ask.Ask.TheVariants as asks
 use Rattle.ld_base.specs.declared.command.Command.{Command}
 use Rattle.ld_base.specs.declared.entry.Entry.{Entry}
 use Rattle.ld_base.specs.declared.reply.Reply.{Reply}
-use Rattle.ld_base.specs.declared.reply.Reply.TheVariants.{Noted, Denied, Go, Halt, Alive, Wait, Over, Full}
+use Rattle.ld_base.specs.declared.reply.Reply.TheVariants.{Noted, Denied, Go, Halt, Alive, Wait, Over}
 use Rattle.ld_machine.specs.Plan.{Plan}
-use Rattle.ld_machine.specs.State.{Level, Runs, StartsNothing, Halted, Condition, Idle, Busy, HeldUser, Share, State, all_closed}
-use Rattle.ld_machine.specs.Scenario.{first_of}
+use Rattle.ld_machine.specs.State.{Level, Halted, Condition, Idle, Busy, HeldUser, Share, State, all_closed}
 use Rattle.ld_machine.specs.Moves.{Move}
 use Rattle.ld_machine.specs.Order.{first_moves}
 use Rattle.ld_machine.specs.Acts.{acts_of}
@@ -37,7 +36,7 @@ pub record Result : Type 0 where
 abbrev pub entries_of : ℕ → ℕ → ℕ → List Act → List Entry
 entries_of at thread t [] = []
 entries_of at thread t (act ∷ rest) =
-  record { turn = at; thread = thread; act = act; reading = t } ∷ entries_of (at + 1) thread t rest
+    record { turn = at; thread = thread; act = act; reading = t } ∷ entries_of (at + 1) thread t rest
 
 -- a reply without an entry
 abbrev pub answered : State → Reply → Result
@@ -50,14 +49,14 @@ recorded plan state reply entries = record { reply = reply; entries = entries; s
 -- a reply with the entries of these acts; turns count from 1
 abbrev pub performed : Plan → State → ℕ → ℕ → Reply → List Act → Result
 performed plan state thread t reply acts =
-  recorded plan state reply (entries_of (state.entries + 1) thread t acts)
+    recorded plan state reply (entries_of (state.entries + 1) thread t acts)
 
 -- ---- Act
 
 -- what a first act gives: it is refused for want of room, or performed
 abbrev pub move_result : Plan → State → ℕ → ℕ → Move → Result
 move_result plan state thread t move =
-  option_map_or (answered state) (room_refusal plan state move) (performed plan state thread t (reply_to move) (acts_of move))
+    option_map_or (answered state) (room_refusal plan state move) (performed plan state thread t (reply_to move) (acts_of move))
 
 -- the first acts, each with what it gives; a wait where there is none
 abbrev pub open_results : Plan → State → ℕ → ℕ → List Move → List Result
@@ -67,7 +66,7 @@ open_results plan state thread t (move ∷ rest) = map (move_result plan state t
 -- an ask for an act: `Over` where every scenario is closed, else a first act or a wait
 abbrev pub act_results : Plan → State → ℕ → ℕ → List Result
 act_results plan state thread t =
-  if all_closed state then answered state Over ∷ [] else open_results plan state thread t (first_moves plan state t)
+    if all_closed state then answered state Over ∷ [] else open_results plan state thread t (first_moves plan state t)
 
 -- ---- Return
 
@@ -78,7 +77,7 @@ is_busy_with (Busy thread' item' until') thread item until = (thread' == thread)
 -- the stint is out at the thread: its user is busy with this thread and with the stint's scenario, item and until
 abbrev pub is_out : State → ℕ → StintView → Bool
 is_out state thread stint =
-  option_map_or
+    option_map_or
     (λ (share : Share). list_any (λ (h : HeldUser). (h.user == stint.user) && is_busy_with h.condition thread stint.item stint.until) share.held)
     (slice_get state.shares stint.scenario)
     false
@@ -94,9 +93,9 @@ return_of stint outcome tally = acts.Return stint.scenario stint.user stint.item
 -- a Return of a stint that is out, with a tally that fits its script, is noted; no other may be asked
 abbrev pub return_results : Plan → State → ℕ → ℕ → StintView → Bool → TallyView → List Result
 return_results plan state thread t stint finished tally =
-  if is_out state thread stint && tally_fits plan.names (script_room plan stint.scenario) tally
-  then performed plan state thread t Noted (return_of stint (outcome_of finished t stint.until) tally ∷ []) ∷ []
-  else []
+    if is_out state thread stint && tally_fits plan.names (script_room plan stint.scenario) tally
+    then performed plan state thread t Noted (return_of stint (outcome_of finished t stint.until) tally ∷ []) ∷ []
+    else []
 
 -- ---- Check, Look and Control
 
@@ -115,16 +114,16 @@ check_results state n = option_map_or (λ share. answered state (check_reply sha
 -- how the run stands
 abbrev pub look_reply : State → Reply
 look_reply state =
-  if all_closed state
-  then Over
-  else Alive state.controls.paused state.stop_commanded state.controls.vus state.controls.vus_max
+    if all_closed state
+    then Over
+    else Alive state.controls.paused state.stop_commanded state.controls.vus state.controls.vus_max
 
 -- a command is denied, or has no room for its entry, or is noted
 abbrev pub control_result : Plan → State → ℕ → ℕ → Command → Result
 control_result plan state thread t command =
-  if is_denied plan state command
-  then answered state Denied
-  else option_map_or (answered state) (entries_refusal plan state 1 0)
+    if is_denied plan state command
+    then answered state Denied
+    else option_map_or (answered state) (entries_refusal plan state 1 0)
     (performed plan state thread t Noted (acts.Control command ∷ []))
 
 -- ---- all asks

@@ -1,10 +1,10 @@
 -- Waiting: the moment up to which nothing can become enabled by the clock alone.
-use Rattle.std.specs.Prelude.{ℕ, Bool, true, false, ◌&&◌, ◌+◌, nat_lt, List, [], ◌∷◌, ◌++◌, map, filter, filter_map, flat_map, min, Option, None, Some, option_map, option_to_list, unwrap_or, if◌then◌else◌}
+use Rattle.std.specs.Prelude.{ℕ, Bool, ◌&&◌, nat_lt, List, [], ◌∷◌, ◌++◌, filter, filter_map, flat_map, min, Option, None, Some, option_map, option_to_list, unwrap_or, if◌then◌else◌}
 use Rattle.std.specs.List.{list_any}
 use Rattle.std.specs.Option.{option_map_or}
 use Rattle.ld_machine.specs.Moment.{moment_after}
 use Rattle.ld_machine.specs.Plan.{Interval, RampingSlot, Executor, RampingVus, Part, Plan, is_external, on_moment, off_moment, due_moment}
-use Rattle.ld_machine.specs.State.{Level, Runs, StartsNothing, Halted, Condition, Idle, Busy, HeldUser, Share, State, busy_users}
+use Rattle.ld_machine.specs.State.{Level, Runs, StartsNothing, Halted, Condition, Idle, Busy, HeldUser, Share, State}
 use Rattle.ld_machine.specs.Scenario.{Scenario, is_open, least_open_arrival}
 use Rattle.ld_machine.specs.Moves.{scenarios}
 
@@ -22,7 +22,7 @@ ramping_moments _ part = []
 -- its grace since the stop was commanded
 abbrev pub level_moments : Level → Scenario → List ℕ
 level_moments Runs s =
-  s.part.begin ∷ s.part.end ∷ option_to_list (option_map (due_moment s.part) (least_open_arrival s))
+    s.part.begin ∷ s.part.end ∷ option_to_list (option_map (due_moment s.part) (least_open_arrival s))
     ++ ramping_moments s.part.executor s.part
 level_moments (StartsNothing commanded) s = moment_after commanded s.part.grace ∷ []
 level_moments Halted s = []
@@ -64,6 +64,6 @@ is_external_open plan state = list_any (λ s. is_open s && is_external s.part.ex
 -- than a short wait while an externally controlled scenario is open
 abbrev pub wait_moment : Plan → State → ℕ → ℕ
 wait_moment plan state t =
-  if is_external_open plan state
-  then option_map_or (min (moment_after t short_wait)) (next_candidate plan state t) (moment_after t short_wait)
-  else unwrap_or (next_candidate plan state t) (moment_after t short_wait)
+    if is_external_open plan state
+    then option_map_or (min (moment_after t short_wait)) (next_candidate plan state t) (moment_after t short_wait)
+    else unwrap_or (next_candidate plan state t) (moment_after t short_wait)

@@ -23,8 +23,7 @@ pub fn ramping_users()
     ensures early_take { first_illegal ramping_plan (with_line (line 1 0 4999999999 (Take 0 1 0)) ramping_done) ≡ Some 1 }
     ensures other_until { first_illegal ramping_plan (with_line (line 4 0 10000000000 (Start 0 2 1 50000000000)) ramping_done) ≡ Some 4 }
     ensures before_on { replies ramping_plan (opening ramping_plan) 0 asks.Act 0 ≡ Wait 5000000000 ∷ [] }
-{
-}
+{}
 
 /// The second of two scenarios takes the users that the first released.
 pub fn two_scenarios()
@@ -33,16 +32,14 @@ pub fn two_scenarios()
     ensures rehearsed { IsRehearsed two_plan 8000000000 two_done }
     ensures other_scenario { first_illegal two_plan (with_line (line 11 0 15000000000 (Take 1 1 0)) two_done) ≡ Some 11 }
     ensures moved_close { first_illegal two_plan (moved_up 17 two_done) ≡ Some 16 }
-{
-}
+{}
 
 /// An arrival is late where the first thread comes behind the end.
 pub fn late_arrivals()
     ensures legal { IsLegal (arrival_plan 1) arrivals_late }
     ensures settled { IsSettled (arrival_plan 1) arrivals_late }
     ensures drops { DropsAllowed (arrival_plan 1) arrivals_late }
-{
-}
+{}
 
 /// A journal of ten entries has no place for a fifth iteration, whose Return is counted in.
 pub fn full_journal()
@@ -50,8 +47,7 @@ pub fn full_journal()
     ensures rehearsed { IsRehearsed full_plan 1000000000 full_lines }
     ensures refused { replies full_plan (state_after full_plan full_lines) 0 asks.Act 4000000000 ≡ Full Entries 11 10 ∷ [] }
     ensures unsettled { unsettled full_plan (state_after full_plan full_lines) ≡ Some (0, 0) }
-{
-}
+{}
 
 /// Users are commanded up to the greatest number, and a stop once.
 pub fn controlled_users()
@@ -66,5 +62,4 @@ pub fn controlled_users()
     ensures stands { replies controlled_plan (state_after controlled_plan (take 7 controlled_stopped)) 1 asks.Look 2000000000 ≡ Alive false true 2 3 ∷ [] }
     ensures over { replies controlled_plan (state_after controlled_plan controlled_stopped) 1 asks.Act 2000000000 ≡ Over ∷ [] }
     ensures short_wait { replies controlled_plan (state_after controlled_plan (take 2 controlled_stopped)) 0 asks.Act 5 ≡ Wait 20000005 ∷ [] }
-{
-}
+{}

@@ -18,42 +18,34 @@ ghost use Rattle.ld_machine.specs.Drops.{DropsAllowed};
 /// A tally passes the test exactly where it fits.
 pub fn fitting_tallies()
     ensures { (names : List NameSpec) (room : ℕ) (tally : TallyView) → IsTrue (tally_fits names room tally) ↔ TallyFits names room tally }
-{
-}
+{}
 
 /// Entries pass the test exactly where they are the same.
 pub fn same_history()
     ensures { (a b : List Entry) → IsTrue (same_entries a b) ↔ (a ≡ b) }
-{
-}
+{}
 
 /// An ask for an act always has a reply.
 pub fn always_answered()
     ensures { (plan : Plan) (state : State) (thread t : ℕ) → 0 < length (results plan state thread asks.Act t) }
-{
-}
+{}
 
 /// Where some act is enabled there is a first one; and the first ones have one place in the order,
 /// so they differ only in the user and in what goes with it.
 pub fn first_acts()
     ensures exist { (plan : Plan) (state : State) (t : ℕ) → first_moves plan state t ≡ [] → enabled plan state t ≡ [] }
-    ensures one_place {
-        (plan : Plan) (state : State) (t : ℕ) (a b : Move) →
-            Contains (first_moves plan state t) a → Contains (first_moves plan state t) b → place_of a ≡ place_of b
-    }
-{
-}
+    ensures one_place { (plan : Plan) (state : State) (t : ℕ) (a b : Move) →
+        Contains (first_moves plan state t) a → Contains (first_moves plan state t) b → place_of a ≡ place_of b }
+{}
 
 /// Behind a commanded stop nothing is taken, grown, started, dropped or counted late, and no second
 /// stop is commanded.
 pub fn behind_a_stop()
     ensures { (plan : Plan) (history : List Entry) → IsLegal plan history → WindsDown history }
-{
-}
+{}
 
 /// In a legal history an arrival is dropped only when it is due, before the end, and where nobody
 /// could play it; an iteration is dropped, and an arrival counted late, only at the end or behind it.
 pub fn dropped_and_late()
     ensures { (plan : Plan) (history : List Entry) → plan.planned ≤ plan.limit → IsLegal plan history → DropsAllowed plan history }
-{
-}
+{}
