@@ -6,3 +6,4 @@ pub mod StepLemmas
 pub mod StopLemmas
 pub mod SourceLemmas
 pub mod DropLemmas
+pub mod WaitLemmas

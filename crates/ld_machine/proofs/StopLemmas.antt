@@ -40,7 +40,7 @@ is_quiet (ReleaseUser _ _) = true
 is_quiet (CloseScenario _) = true
 is_quiet _ = false
 
-no_take : (executor : Executor) (s : Scenario) (slot t : ℕ) → runs s ≡ false → executor_may_take executor s slot t ≡ false
+pub no_take : (executor : Executor) (s : Scenario) (slot t : ℕ) → runs s ≡ false → executor_may_take executor s slot t ≡ false
 no_take (SharedIterations _ _) s slot t h = rw h refl
 no_take (PerVuIterations _ _) s slot t h = rw h refl
 no_take (ConstantVus _) s slot t h = rw h refl
@@ -48,7 +48,7 @@ no_take (RampingVus _ _) s slot t h = rw h refl
 no_take (ArrivalRate _ _ _) s slot t h = rw h refl
 no_take (ExternallyControlled _ _ _) s slot t h = rw h refl
 
-no_start : (executor : Executor) (s : Scenario) (slot t : ℕ) → runs s ≡ false → executor_item_to_start executor s slot t ≡ None
+pub no_start : (executor : Executor) (s : Scenario) (slot t : ℕ) → runs s ≡ false → executor_item_to_start executor s slot t ≡ None
 no_start (SharedIterations _ _) s slot t h = rw h refl
 no_start (PerVuIterations _ _) s slot t h = rw h refl
 no_start (ConstantVus _) s slot t h = rw h refl
@@ -56,7 +56,7 @@ no_start (RampingVus _ _) s slot t h = rw h refl
 no_start (ArrivalRate _ _ _) s slot t h = refl
 no_start (ExternallyControlled _ _ _) s slot t h = rw h refl
 
-no_drop : (executor : Executor) (s : Scenario) (t : ℕ) → runs s ≡ false → executor_item_to_drop executor s t ≡ None
+pub no_drop : (executor : Executor) (s : Scenario) (t : ℕ) → runs s ≡ false → executor_item_to_drop executor s t ≡ None
 no_drop (SharedIterations _ _) s t h = rw h refl
 no_drop (PerVuIterations _ _) s t h = rw h refl
 no_drop (ConstantVus _) s t h = refl

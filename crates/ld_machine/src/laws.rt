@@ -2,6 +2,7 @@
 ghost use Rattle.std.specs.Prelude.{◌≡◌, ◌↔◌, ◌<◌, ◌≤◌, ℕ, List, [], Contains, IsTrue, length};
 ghost use Rattle.ld_base.specs.Tally.{TallyView, TallyFits};
 ghost use Rattle.ld_base.specs.declared.ask.Ask.TheVariants as asks;
+ghost use Rattle.ld_base.specs.declared.reply.Reply.TheVariants.{Wait};
 ghost use Rattle.ld_base.specs.declared.entry.Entry.{Entry};
 ghost use Rattle.ld_base.specs.declared.metric.NameSpec.{NameSpec};
 ghost use Rattle.ld_machine.specs.Plan.{Plan};
@@ -10,7 +11,8 @@ ghost use Rattle.ld_machine.specs.Moves.{Move, enabled};
 ghost use Rattle.ld_machine.specs.Order.{place_of, first_moves};
 ghost use Rattle.ld_machine.specs.Samples.{tally_fits};
 ghost use Rattle.ld_machine.specs.Same.{same_entries};
-ghost use Rattle.ld_machine.specs.Step.{results};
+ghost use Rattle.ld_machine.specs.Step.{results, replies};
+ghost use Rattle.ld_machine.specs.Rehearsal.{NothingEnabled};
 ghost use Rattle.ld_machine.specs.History.{IsLegal};
 ghost use Rattle.ld_machine.specs.Stops.{WindsDown};
 ghost use Rattle.ld_machine.specs.Drops.{DropsAllowed};
@@ -49,3 +51,13 @@ pub fn behind_a_stop()
 pub fn dropped_and_late()
     ensures { (plan : Plan) (history : List Entry) → plan.planned ≤ plan.limit → IsLegal plan history → DropsAllowed plan history }
 {}
+
+/// Where an ask for an act is answered by a wait for a moment, no act is enabled at any moment from
+/// the reading up to and without that one.
+pub fn waits()
+    ensures {
+        (plan : Plan) (state : State) (thread t m : ℕ) →
+            Contains (replies plan state thread asks.Act t) (Wait m) → NothingEnabled plan state t m
+    }
+{
+}
