@@ -5,14 +5,25 @@ use Rattle.std.specs.Option.{option_map_or}
 use Rattle.std.specs.List.{enumerate_from, cons_option}
 use Rattle.std.proofs.Math.Decide.{dec_lt}
 use Rattle.std.proofs.lemmas.Grind.{common_steps}
+use Rattle.ld_base.specs.declared.reply.Reply.{Reply}
+use Rattle.ld_base.specs.declared.reply.Reply.TheVariants.{Wait, Over, Full}
+use Rattle.ld_base.specs.declared.reply.Room.{Room}
+use Rattle.ld_base.specs.declared.reply.Room.TheVariants.{Entries, Samples}
 use Rattle.ld_machine.specs.Moment.{moment_after}
 use Rattle.ld_machine.specs.Plan.{Interval, RampingSlot, Arrival, Executor, SharedIterations, PerVuIterations, ConstantVus, RampingVus, ArrivalRate, ExternallyControlled, Part, Plan, on_moment, off_moment, due_moment}
-use Rattle.ld_machine.specs.State.{Level, Runs, StartsNothing, Halted, HeldUser, Share, State, idle_users}
+use Rattle.ld_machine.specs.State.{Level, Runs, StartsNothing, Halted, HeldUser, Share, State, idle_users, all_closed}
 use Rattle.ld_machine.specs.Scenario.{Scenario, is_open, level_runs, runs, has_begun, has_ended, is_live, is_within, interval_at, where_holds, executor_may_take, may_take, slots_to_take, executor_may_release, may_release, executor_item_to_start, item_to_start, executor_until, until_of, executor_item_to_drop, item_to_drop, level_may_stop, may_stop, executor_may_close, may_close, least_open_arrival, due_arrival, is_due}
-use Rattle.ld_machine.specs.Moves.{Move, TakeUser, ReleaseUser, StopScenario, CloseScenario, DropIteration, Users, users_of, answers, stops, releases, takes, arrivals, answers_to, starts, start_on, drops, closes, moves_of, scenarios, enabled}
+use Rattle.ld_machine.specs.Moves.{Answer, CountLate, StartOn, GrowAndStart, TakeAndStart, DropArrival, Move, StopScenario, ReleaseUser, TakeUser, AnswerArrival, StartIteration, DropIteration, CloseScenario, Users, users_of, answers, stops, releases, takes, arrivals, answers_to, starts, start_on, drops, closes, moves_of, scenarios, enabled}
+use Rattle.ld_machine.specs.Order.{first_moves}
+use Rattle.ld_machine.specs.Acts.{acts_of, added_entries, made_busy, scenario_of}
+use Rattle.ld_machine.specs.Replies.{answer_reply, reply_to}
+use Rattle.ld_machine.specs.Room.{entries_with, samples_with, entries_refusal, samples_refusal, or_else, room_refusal}
+use Rattle.ld_machine.specs.Step.{Result, answered, performed, move_result, open_results, act_results}
 use Rattle.ld_machine.specs.Wait.{interval_moments, ramping_moments, level_moments, scenario_moments, untils, candidates, least_of, next_candidate, short_wait, is_external_open, wait_moment}
 use Rattle.ld_machine.specs.Rehearsal.{NothingEnabled}
-use Rattle.ld_machine.proofs.ListLemmas.{In, here, there, nothing_in, filter-In, In-enumerate}
+use Rattle.ld_machine.proofs.ListLemmas.{In, here, there, nothing_in, filter-In, In-enumerate, In-map}
+use Rattle.ld_machine.proofs.OrderLemmas.{none_first}
+use Rattle.ld_machine.proofs.SourceLemmas.{In-one}
 use Rattle.ld_machine.proofs.StopLemmas.{no_take, no_start, no_drop}
 
 -- the moments from t on to x pass none of these
@@ -282,3 +293,96 @@ wait_agrees plan state t x from to c at =
 
 pub nothing_while_waiting : (plan : Plan) (state : State) (t : ℕ) → enabled plan state t ≡ [] → NothingEnabled plan state t (wait_moment plan state t)
 nothing_while_waiting plan state t none x from to = sym (enabled_same plan state t x (wait_agrees plan state t x from to)) ∙ none
+
+-- ---- the reply
+
+-- the moment that a reply says to wait for
+wait_in : Reply → Option ℕ
+wait_in (Wait m) = Some m
+wait_in _ = None
+
+no_wait_answer : (n item until : ℕ) (answer : Answer) → wait_in (answer_reply n item until answer) ≡ None
+unfolding wait_in
+no_wait_answer n item until CountLate = refl
+no_wait_answer n item until (StartOn user) = refl
+no_wait_answer n item until (GrowAndStart user slot) = refl
+no_wait_answer n item until (TakeAndStart user slot) = refl
+no_wait_answer n item until DropArrival = refl
+
+no_wait_move : (move : Move) → wait_in (reply_to move) ≡ None
+unfolding wait_in
+no_wait_move (StopScenario n) = refl
+no_wait_move (ReleaseUser n user) = refl
+no_wait_move (TakeUser n user slot) = refl
+no_wait_move (AnswerArrival n due item until answer) = no_wait_answer n item until answer
+no_wait_move (StartIteration n user item until) = refl
+no_wait_move (DropIteration n item) = refl
+no_wait_move (CloseScenario n) = refl
+
+no_wait_cond : (b : Bool) (room : Room) (needed limit : ℕ) (reply : Reply) → cond b (Some (Full room needed limit)) None ≡ Some reply → wait_in reply ≡ None
+unfolding wait_in
+no_wait_cond true room needed limit reply h = let same : Full room needed limit ≡ reply = cc in subst (λ r. wait_in r ≡ None) same refl
+no_wait_cond false room needed limit reply h = absurd (cc)
+
+no_wait_none : (reply : Reply) → None ≡ Some reply → wait_in reply ≡ None
+no_wait_none reply h = absurd (cc)
+
+no_wait_samples : (plan : Plan) (state : State) (n : ℕ) (b : Bool) (reply : Reply) → cond b (samples_refusal plan state n) None ≡ Some reply → wait_in reply ≡ None
+no_wait_samples plan state n true reply h =
+  no_wait_cond (nat_lt plan.entry_limit (samples_with plan state n)) Samples (samples_with plan state n) plan.entry_limit reply h
+no_wait_samples plan state n false reply h = no_wait_none reply h
+
+no_wait_else : (first second : Option Reply) → ((reply : Reply) → first ≡ Some reply → wait_in reply ≡ None) → ((reply : Reply) → second ≡ Some reply → wait_in reply ≡ None) →
+  (reply : Reply) → or_else first second ≡ Some reply → wait_in reply ≡ None
+no_wait_else None second f s reply h = s reply h
+no_wait_else (Some r) second f s reply h = f reply h
+
+no_wait_refusal : (plan : Plan) (state : State) (move : Move) (reply : Reply) → room_refusal plan state move ≡ Some reply → wait_in reply ≡ None
+no_wait_refusal plan state move reply h =
+  no_wait_else (entries_refusal plan state (added_entries move) (made_busy move))
+    (cond (nat_lt 0 (made_busy move)) (samples_refusal plan state (scenario_of move)) None)
+    (λ r e. no_wait_cond (nat_lt plan.entry_limit (entries_with state (added_entries move) (made_busy move))) Entries (entries_with state (added_entries move) (made_busy move)) plan.entry_limit r e)
+    (λ r e. no_wait_samples plan state (scenario_of move) (nat_lt 0 (made_busy move)) r e)
+    reply h
+
+no_wait_result : (plan : Plan) (state : State) (thread t : ℕ) (move : Move) → wait_in (move_result plan state thread t move).reply ≡ None
+no_wait_result plan state thread t move =
+  let P : Option Reply → Type 0 = λ o. room_refusal plan state move ≡ o →
+    wait_in (option_map_or (answered state) o (performed plan state thread t (reply_to move) (acts_of move))).reply ≡ None in
+  let none : P (room_refusal plan state move) = elim (room_refusal plan state move) as P [
+    None ↦ λ e. no_wait_move move
+  | Some reply ↦ λ e. no_wait_refusal plan state move reply e
+  ] in none refl
+
+some_not_none : {A : Type 0} {x : A} → Some x ≡ None → ⊥
+some_not_none e = cc
+
+-- an open pool's wait is for the moment to wait for, where nothing is enabled
+open_waits : (plan : Plan) (state : State) (thread t m : ℕ) (moves : List Move) (r : Result) → In r (open_results plan state thread t moves) → wait_in r.reply ≡ Some m →
+  (moves ≡ []) × (wait_moment plan state t ≡ m)
+unfolding wait_in
+open_waits plan state thread t m [] r h waits =
+  let same = In-one r (answered state (Wait (wait_moment plan state t))) h in
+  let told : Some (wait_moment plan state t) ≡ Some m = ap (λ (q : Result). wait_in q.reply) same ∙ waits in
+  (refl, cc)
+open_waits plan state thread t m (move ∷ rest) r h waits =
+  let found = In-map (move_result plan state thread t) r (move ∷ rest) h in
+  let none = sym (ap (λ (q : Result). wait_in q.reply) found.2) ∙ no_wait_result plan state thread t found.0 in
+  absurd (some_not_none (sym waits ∙ none))
+
+pub waits_for : (plan : Plan) (state : State) (thread t m : ℕ) → In (Wait m) (map (λ (r : Result). r.reply) (act_results plan state thread t)) →
+  (enabled plan state t ≡ []) × (wait_moment plan state t ≡ m)
+unfolding wait_in
+waits_for plan state thread t m h =
+  let found = In-map (λ (r : Result). r.reply) (Wait m) (act_results plan state thread t) h in
+  let waits : wait_in found.0.reply ≡ Some m = ap wait_in found.2 in
+  let P : Bool → Type 0 = λ b. In found.0 (cond b (answered state Over ∷ []) (open_results plan state thread t (first_moves plan state t))) → (enabled plan state t ≡ []) × (wait_moment plan state t ≡ m) in
+  let tells : P (all_closed state) = elim (all_closed state) as P [
+    true ↦ λ at. let none = ap (λ (q : Result). wait_in q.reply) (In-one found.0 (answered state Over) at) in absurd (some_not_none (sym waits ∙ sym none))
+  | false ↦ λ at. let it = open_waits plan state thread t m (first_moves plan state t) found.0 at waits in (none_first (enabled plan state t) it.0, it.1)
+  ] in tells found.1
+
+pub reply_waits : (plan : Plan) (state : State) (thread t m : ℕ) → In (Wait m) (map (λ (r : Result). r.reply) (act_results plan state thread t)) → NothingEnabled plan state t m
+reply_waits plan state thread t m h =
+  let told = waits_for plan state thread t m h in
+  subst (λ moment. NothingEnabled plan state t moment) told.1 (nothing_while_waiting plan state t told.0)
