@@ -7,3 +7,4 @@ pub mod StopLemmas
 pub mod SourceLemmas
 pub mod DropLemmas
 pub mod WaitLemmas
+pub mod FrontLemmas

@@ -1,5 +1,5 @@
 -- Legal histories: entries of steps, one step after another from the opening state.
-use Rattle.std.specs.Prelude.{ℕ, Bool, true, false, not, ◌&&◌, ◌||◌, ◌==◌, List, [], ◌∷◌, take, length, Option, None, Some, find, unwrap_or, IsTrue, slice_get, if◌then◌else◌}
+use Rattle.std.specs.Prelude.{◌≡◌, ◌++◌, ℕ, Bool, true, false, not, ◌&&◌, ◌||◌, ◌==◌, List, [], ◌∷◌, take, length, Option, None, Some, find, unwrap_or, IsTrue, slice_get, if◌then◌else◌}
 use Rattle.std.specs.List.{list_any, range_with_len}
 use Rattle.std.specs.Option.{option_map_or, option_or}
 use Rattle.ld_base.specs.Stint.{stint_of}
@@ -13,7 +13,7 @@ use Rattle.ld_base.specs.declared.entry.Entry.{Entry}
 use Rattle.ld_machine.specs.Plan.{Plan}
 use Rattle.ld_machine.specs.State.{HeldUser, Share, State, opening}
 use Rattle.ld_machine.specs.Wait.{busy_until}
-use Rattle.ld_machine.specs.Effect.{after_entry}
+use Rattle.ld_machine.specs.Effect.{after_entry, state_after}
 use Rattle.ld_machine.specs.Same.{same_entry, same_entries}
 use Rattle.ld_machine.specs.Step.{Result, results}
 
@@ -101,3 +101,14 @@ first_beyond plan history = find (λ n. not (is_front plan (take n history))) (r
 abbrev pub first_illegal : Plan → List Entry → Option ℕ
 first_illegal plan history =
     option_or (first_beyond plan history) (if is_legal plan history then None else Some (length history))
+
+-- ---- fronts of histories
+
+-- the entries end between the two entries of one step: all but the last are legal, and the last is
+-- the first of two
+pub record EndsInside (plan : Plan) (entries : List Entry) : Type 0 where
+    pub before : List Entry
+    pub one : Entry
+    pub parts : entries ≡ before ++ one ∷ []
+    pub legal : IsLegal plan before
+    pub begins : IsTrue (begins_two plan (state_after plan before) one)

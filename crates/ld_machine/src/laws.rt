@@ -1,5 +1,5 @@
 // The laws of the machine, over all plans, states and histories.
-ghost use Rattle.std.specs.Prelude.{◌≡◌, ◌↔◌, ◌<◌, ◌≤◌, ℕ, List, [], Contains, IsTrue, length};
+ghost use Rattle.std.specs.Prelude.{◌≡◌, ◌++◌, ◌⊎◌, ◌↔◌, ◌<◌, ◌≤◌, ℕ, List, [], Contains, IsTrue, length};
 ghost use Rattle.ld_base.specs.Tally.{TallyView, TallyFits};
 ghost use Rattle.ld_base.specs.declared.ask.Ask.TheVariants as asks;
 ghost use Rattle.ld_base.specs.declared.reply.Reply.TheVariants.{Wait};
@@ -13,7 +13,7 @@ ghost use Rattle.ld_machine.specs.Samples.{tally_fits};
 ghost use Rattle.ld_machine.specs.Same.{same_entries};
 ghost use Rattle.ld_machine.specs.Step.{results, replies};
 ghost use Rattle.ld_machine.specs.Rehearsal.{NothingEnabled};
-ghost use Rattle.ld_machine.specs.History.{IsLegal};
+ghost use Rattle.ld_machine.specs.History.{IsLegal, EndsInside};
 ghost use Rattle.ld_machine.specs.Stops.{WindsDown};
 ghost use Rattle.ld_machine.specs.Drops.{DropsAllowed};
 
@@ -58,6 +58,14 @@ pub fn waits()
     ensures {
         (plan : Plan) (state : State) (thread t m : ℕ) →
             Contains (replies plan state thread asks.Act t) (Wait m) → NothingEnabled plan state t m
+    }
+{
+}
+
+/// A front of a legal history is legal, unless it ends between the two entries of one step.
+pub fn fronts()
+    ensures {
+        (plan : Plan) (front rest : List Entry) → IsLegal plan (front ++ rest) → IsLegal plan front ⊎ EndsInside plan front
     }
 {
 }
