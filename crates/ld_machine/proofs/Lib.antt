@@ -8,3 +8,4 @@ pub mod SourceLemmas
 pub mod DropLemmas
 pub mod WaitLemmas
 pub mod FrontLemmas
+pub mod ItemLemmas

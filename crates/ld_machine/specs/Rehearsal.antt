@@ -35,12 +35,13 @@ is_rehearsed_entry entry = (entry.thread == 0) && is_rehearsed_act entry.act
 
 -- ---- the returns
 
--- an act is the Return of the iteration that was started at `start` with this `until`, where
--- iterations have the length `long`: it is done where its whole length fits
+-- an act is a Return, done exactly where the test holds
 abbrev pub is_done_as : Act → Bool → Bool
 is_done_as (Return _ _ _ outcome _) done = same_bool (is_done outcome) done
 is_done_as _ done = false
 
+-- an entry is at the end of an iteration that began at `start` with this `until`, where iterations
+-- have the length `long`: at the least of both moments, and done where the whole length fits
 abbrev pub returns_at : ℕ → ℕ → ℕ → Entry → Bool
 returns_at long start until entry =
     (entry.reading == min (moment_after start long) until) && is_done_as entry.act (nat_le (moment_after start long) until)

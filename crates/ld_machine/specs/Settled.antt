@@ -22,6 +22,11 @@ item_of n _ = None
 abbrev pub items_in : ℕ → List Entry → List ℕ
 items_in n history = filter_map (λ (entry : Entry). item_of n entry.act) history
 
+-- no number of the list comes again in it
+abbrev pub is_distinct : List ℕ → Bool
+is_distinct [] = true
+is_distinct (x ∷ rest) = not (list_any (λ k. k == x) rest) && is_distinct rest
+
 -- the executor has items
 abbrev pub has_items : Executor → Bool
 has_items (SharedIterations _ _) = true

@@ -1,11 +1,12 @@
 // The laws of the machine, over all plans, states and histories.
-ghost use Rattle.std.specs.Prelude.{◌≡◌, ◌++◌, ◌⊎◌, ◌↔◌, ◌<◌, ◌≤◌, ℕ, List, [], Contains, IsTrue, length};
+ghost use Rattle.std.specs.Prelude.{◌≡◌, ◌++◌, ◌⊎◌, ◌↔◌, ◌<◌, ◌≤◌, ℕ, List, [], Contains, IsTrue, length, Some, slice_get};
 ghost use Rattle.ld_base.specs.Tally.{TallyView, TallyFits};
 ghost use Rattle.ld_base.specs.declared.ask.Ask.TheVariants as asks;
 ghost use Rattle.ld_base.specs.declared.reply.Reply.TheVariants.{Wait};
 ghost use Rattle.ld_base.specs.declared.entry.Entry.{Entry};
 ghost use Rattle.ld_base.specs.declared.metric.NameSpec.{NameSpec};
-ghost use Rattle.ld_machine.specs.Plan.{Plan};
+ghost use Rattle.ld_machine.specs.Plan.{Part, Plan};
+ghost use Rattle.ld_machine.specs.Settled.{has_items, is_distinct, items_in};
 ghost use Rattle.ld_machine.specs.State.{State};
 ghost use Rattle.ld_machine.specs.Moves.{Move, enabled};
 ghost use Rattle.ld_machine.specs.Order.{place_of, first_moves};
@@ -66,6 +67,15 @@ pub fn waits()
 pub fn fronts()
     ensures {
         (plan : Plan) (front rest : List Entry) → IsLegal plan (front ++ rest) → IsLegal plan front ⊎ EndsInside plan front
+    }
+{
+}
+
+/// No item of a scenario is started, dropped or counted late twice.
+pub fn items_once()
+    ensures {
+        (plan : Plan) (history : List Entry) (n : ℕ) (part : Part) → IsLegal plan history → slice_get plan.parts n ≡ Some part →
+            IsTrue (has_items part.executor) → IsTrue (is_distinct (items_in n history))
     }
 {
 }
