@@ -23,7 +23,7 @@ use Rattle.ld_machine.proofs.SourceLemmas.{Source, by_stop, by_release, by_take,
 use Rattle.ld_machine.proofs.StepLemmas.{first_enabled, Wrote, one_wrote, pair_wrote}
 
 -- the acts of the entries of acts are these acts
-acts_back : (at thread t : ℕ) (acts : List Act) → map (λ (e : Entry). e.act) (entries_of at thread t acts) ≡ acts
+pub acts_back : (at thread t : ℕ) (acts : List Act) → map (λ (e : Entry). e.act) (entries_of at thread t acts) ≡ acts
 acts_back at thread t [] = refl
 acts_back at thread t (act ∷ rest) = ap (λ more. act ∷ more) (acts_back (at + 1) thread t rest)
 

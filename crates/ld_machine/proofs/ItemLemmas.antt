@@ -11,14 +11,17 @@ use Rattle.ld_base.specs.declared.entry.Entry.{Entry}
 use Rattle.ld_machine.specs.Plan.{SlotItem, Arrival, Executor, SharedIterations, PerVuIterations, ConstantVus, RampingVus, ArrivalRate, ExternallyControlled, Part, Plan, owned_items}
 use Rattle.ld_machine.specs.State.{StartsNothing, Busy, Share, Controls, State}
 use Rattle.ld_machine.specs.Scenario.{Scenario, first_of, where_holds, runs, is_live, has_ended, is_open_item, open_items, least_open_item, slot_open_item, least_open_arrival, executor_arrivals, executor_item_to_start, executor_item_to_drop, item_to_start, item_to_drop}
-use Rattle.ld_machine.specs.Moves.{Answer, CountLate, StartOn, GrowAndStart, TakeAndStart, DropArrival, Move, Users, users_of, scenarios_with, scenarios}
+use Rattle.ld_machine.specs.Moves.{Answer, CountLate, StartOn, GrowAndStart, TakeAndStart, DropArrival, Move, StopScenario, ReleaseUser, TakeUser, AnswerArrival, StartIteration, DropIteration, CloseScenario, Users, users_of, scenarios_with, scenarios}
 use Rattle.ld_machine.specs.Acts.{acts_of}
 use Rattle.ld_machine.specs.Commands.{stop_commanded_share}
-use Rattle.ld_machine.specs.Effect.{put_condition, change_at, change_share, end_item, end_item_of, after_entry}
+use Rattle.ld_machine.specs.Effect.{hold, put_condition, change_at, change_share, end_item, end_item_of, after_entry}
+use Rattle.ld_machine.specs.History.{adds_one, adds_two, are_steps}
+use Rattle.ld_machine.specs.OnTime.{is_asked_act}
 use Rattle.ld_machine.specs.Settled.{item_of, items_in, has_items, is_distinct}
 use Rattle.ld_machine.proofs.ListLemmas.{In, here, there, nothing_in, In-filter, any-from_In, both_true, some_true}
 use Rattle.ld_machine.proofs.SourceLemmas.{Source, by_stop, by_release, by_take, by_arrival, by_start, by_drop, by_close, source_of, In-one}
-use Rattle.ld_machine.proofs.DropLemmas.{due_tells}
+use Rattle.ld_machine.proofs.DropLemmas.{due_tells, acts_back}
+use Rattle.ld_machine.proofs.StepLemmas.{Wrote, first_enabled, one_wrote, pair_wrote}
 
 some_not_none : {A : Type 0} {x : A} → Some x ≡ None → ⊥
 some_not_none e = cc
@@ -272,3 +275,203 @@ end_ends part item (suc n) (share ∷ rest) h owned = end_ends part item n rest 
 end_item_ends : (plan : Plan) (part : Part) (n item : ℕ) (state : State) → slice_get plan.parts n ≡ Some part → is_there state.shares n ≡ true →
   has (owned_items part.executor) item ≡ true → has (ended_in (end_item_of plan n item state).shares n) item ≡ true
 end_item_ends plan part n item state stands h owned = rw stands (end_ends part item n state.shares h owned)
+
+-- ---- one entry
+
+-- an owned item has ended behind the entry that ends it
+ended_now : (plan : Plan) (part : Part) (state : State) (at thread t : ℕ) (act : Act) (n i : ℕ) → slice_get plan.parts n ≡ Some part →
+  is_there state.shares n ≡ true → has (owned_items part.executor) i ≡ true → item_of n act ≡ Some i →
+  has (ended_in (after_entry plan state (record { turn = at; thread = thread; act = act; reading = t })).shares n) i ≡ true
+ended_now plan part state at thread t (Start k user item until) n i stands h owned is_it =
+  let told = chosen k n item i is_it in
+  let started = change_share state k (put_condition user (Busy thread item until)) in
+  let still : is_there started.shares n ≡ true = there_changed k n (put_condition user (Busy thread item until)) state.shares ∙ h in
+  rw (told.0, told.1) (end_item_ends plan part n i (change_share state n (put_condition user (Busy thread i until))) stands
+    (there_changed n n (put_condition user (Busy thread i until)) state.shares ∙ h) owned)
+ended_now plan part state at thread t (Drop k item) n i stands h owned is_it =
+  let told = chosen k n item i is_it in rw (told.0, told.1) (end_item_ends plan part n i state stands h owned)
+ended_now plan part state at thread t (Late k item) n i stands h owned is_it =
+  let told = chosen k n item i is_it in rw (told.0, told.1) (end_item_ends plan part n i state stands h owned)
+ended_now plan part state at thread t (Take k user slot) n i stands h owned is_it = absurd (cc)
+ended_now plan part state at thread t (Grow k user slot) n i stands h owned is_it = absurd (cc)
+ended_now plan part state at thread t (Return k user item outcome tally) n i stands h owned is_it = absurd (cc)
+ended_now plan part state at thread t (Release k user) n i stands h owned is_it = absurd (cc)
+ended_now plan part state at thread t (Stop k) n i stands h owned is_it = absurd (cc)
+ended_now plan part state at thread t (Close k) n i stands h owned is_it = absurd (cc)
+ended_now plan part state at thread t (Control command) n i stands h owned is_it = absurd (cc)
+
+-- an item that a first act ends hasn't ended before, is owned, and its scenario stands
+record New (plan : Plan) (state : State) (n i : ℕ) : Type 0 where
+  share : is_there state.shares n ≡ true
+  unended : has (ended_in state.shares n) i ≡ false
+  owned : (part : Part) → slice_get plan.parts n ≡ Some part → has (owned_items part.executor) i ≡ true
+
+there_from : (shares : List Share) (n : ℕ) (share : Share) → slice_get shares n ≡ Some share → is_there shares n ≡ true
+there_from [] n share h = absurd (cc)
+there_from (x ∷ rest) zero share h = refl
+there_from (x ∷ rest) (suc n) share h = there_from rest n share h
+
+number_itself : (n : ℕ) → (n == n) ≡ true
+number_itself n = grind (arith, common_steps)
+
+wrote_new : (plan : Plan) (part : Part) (state : State) (thread t : ℕ) (entries : List Entry) → Wrote plan state thread t entries →
+  (n i : ℕ) (act : Act) → slice_get plan.parts n ≡ Some part → has_items part.executor ≡ true → In act (map (λ (e : Entry). e.act) entries) →
+  item_of n act ≡ Some i → New plan state n i
+wrote_new plan part state thread t entries w n i act stands some at h =
+  let where_it = first_enabled plan state t w.move w.first in
+  let acts : acts_of w.move ≡ map (λ (e : Entry). e.act) entries =
+    sym (acts_back (state.entries + 1) thread t (acts_of w.move)) ∙ ap (λ es. map (λ (e : Entry). e.act) es) w.wrote in
+  let told = act_fresh (users_of plan state) where_it.number where_it.scenario t w.move
+    (source_of (users_of plan state) where_it.number where_it.scenario t w.move where_it.enabled) n i act (subst (λ as_. In act as_) (sym acts) at) h in
+  let stands_at : slice_get (scenarios plan state) n ≡ Some where_it.scenario =
+    subst (λ k. slice_get (scenarios plan state) k ≡ Some where_it.scenario) told.0 where_it.stands in
+  let of_it = stands_share state.controls plan.parts state.shares n where_it.scenario stands_at in
+  let same_part : Some part ≡ Some where_it.scenario.part = sym stands ∙ of_it.0 in
+  let its_part : part ≡ where_it.scenario.part = some_same same_part in
+  let fresh = told.1 (subst (λ (p : Part). has_items p.executor ≡ true) its_part some) in
+  record {
+    share = there_from state.shares n where_it.scenario.share of_it.1;
+    unended = subst (λ ended. has ended i ≡ false) (sym of_it.2) (not_true (has where_it.scenario.share.ended i) fresh.opened);
+    owned = λ other other_stands.
+      let same : other ≡ where_it.scenario.part = some_same (sym other_stands ∙ of_it.0) in
+      subst (λ (p : Part). has (owned_items p.executor) i ≡ true) (sym same)
+        (any-from_In (λ k. k == i) i fresh.owned (number_itself i))
+  }
+  where
+  some_same : {A : Type 0} {a b : A} → Some a ≡ Some b → a ≡ b
+  some_same e = cc
+  not_true : (b : Bool) → not b ≡ true → b ≡ false
+  not_true false h = refl
+  not_true true h = absurd (cc)
+
+-- ---- lists of items
+
+-- none of the items has ended
+abbrev unended : List ℕ → List ℕ → Bool
+unended ended items = list_all (λ i. not (has ended i)) items
+
+false_not_true : {B : Type 0} → false ≡ true → B
+false_not_true e = absurd (cc)
+
+not_has : (E : List ℕ) (i : ℕ) → not (has E i) ≡ true → has E i ≡ true → ⊥
+not_has E i h k = let e : not true ≡ true = subst (λ b. not b ≡ true) k h in cc
+
+-- what hasn't ended later hasn't ended before
+unended_before : (E later : List ℕ) (items : List ℕ) → ((x : ℕ) → has E x ≡ true → has later x ≡ true) → unended later items ≡ true → unended E items ≡ true
+unended_before E later [] keeps h = refl
+unended_before E later (i ∷ items) keeps h =
+  let both = both_true (not (has later i)) _ h in
+  let P : Bool → Type 0 = λ b. has E i ≡ b → not (has E i) ≡ true in
+  let now : P (has E i) = elim (has E i) as P [ false ↦ λ e. rw e refl | true ↦ λ e. absurd (not_has later i both.0 (keeps i e)) ] in
+  rw (now refl, unended_before E later items keeps both.1) refl
+
+-- an item that has ended is none of those that haven't
+not_among : (E : List ℕ) (i : ℕ) (items : List ℕ) → has E i ≡ true → unended E items ≡ true → list_any (λ k. k == i) items ≡ false
+not_among E i [] ended h = refl
+not_among E i (x ∷ items) ended h =
+  let both = both_true (not (has E x)) _ h in
+  let P : Bool → Type 0 = λ b. (x == i) ≡ b → (x == i) ≡ false in
+  let differs : P (x == i) = elim (x == i) as P [
+    false ↦ λ e. e
+  | true ↦ λ e. let same : x ≡ i = grind (arith, common_steps) in absurd (not_has E x both.0 (subst (λ z. has E z ≡ true) (sym same) ended))
+  ] in
+  rw (differs refl, not_among E i items ended both.1) refl
+
+-- an entry's item, if any, before those of the entries behind it
+front_once : (E later : List ℕ) (o : Option ℕ) (items : List ℕ) → ((i : ℕ) → o ≡ Some i → (has E i ≡ false) × (has later i ≡ true)) →
+  ((x : ℕ) → has E x ≡ true → has later x ≡ true) → unended later items ≡ true → is_distinct items ≡ true →
+  (unended E (cons_option o items) ≡ true) × (is_distinct (cons_option o items) ≡ true)
+front_once E later None items new keeps h distinct = (unended_before E later items keeps h, distinct)
+front_once E later (Some i) items new keeps h distinct =
+  let it = new i refl in
+  (rw (it.0, unended_before E later items keeps h) refl, rw (not_among later i items it.1 h, distinct) refl)
+
+-- a user is taken or grown
+abbrev is_gain : Act → Bool
+is_gain (Take _ _ _) = true
+is_gain (Grow _ _ _) = true
+is_gain _ = false
+
+-- the first of two acts of a step takes or grows a user
+first_gains : (move : Move) (a b : Act) → acts_of move ≡ a ∷ b ∷ [] → is_gain a ≡ true
+first_gains (AnswerArrival k due item until (GrowAndStart user slot)) a b e = let same : Grow k user slot ≡ a = cc in subst (λ z. is_gain z ≡ true) same refl
+first_gains (AnswerArrival k due item until (TakeAndStart user slot)) a b e = let same : Take k user slot ≡ a = cc in subst (λ z. is_gain z ≡ true) same refl
+first_gains (AnswerArrival k due item until CountLate) a b e = absurd (cc)
+first_gains (AnswerArrival k due item until (StartOn user)) a b e = absurd (cc)
+first_gains (AnswerArrival k due item until DropArrival) a b e = absurd (cc)
+first_gains (StopScenario k) a b e = absurd (cc)
+first_gains (ReleaseUser k user) a b e = absurd (cc)
+first_gains (TakeUser k user slot) a b e = absurd (cc)
+first_gains (StartIteration k user item until) a b e = absurd (cc)
+first_gains (DropIteration k item) a b e = absurd (cc)
+first_gains (CloseScenario k) a b e = absurd (cc)
+
+gain_no_item : (n : ℕ) (act : Act) → is_gain act ≡ true → item_of n act ≡ None
+gain_no_item n (Take k user slot) h = refl
+gain_no_item n (Grow k user slot) h = refl
+gain_no_item n _ h = absurd (cc)
+
+unasked_no_item : (n : ℕ) (act : Act) → is_asked_act act ≡ false → item_of n act ≡ None
+unasked_no_item n (Return k user item outcome tally) h = refl
+unasked_no_item n (Control command) h = refl
+unasked_no_item n _ h = absurd (cc)
+
+there_after : (plan : Plan) (state : State) (at thread t : ℕ) (act : Act) (n : ℕ) → is_gain act ≡ true → is_there state.shares n ≡ true →
+  is_there (after_entry plan state (record { turn = at; thread = thread; act = act; reading = t })).shares n ≡ true
+there_after plan state at thread t (Take k user slot) n gain h = there_changed k n (hold user slot) state.shares ∙ h
+there_after plan state at thread t (Grow k user slot) n gain h = there_changed k n (hold user slot) state.shares ∙ h
+there_after plan state at thread t _ n gain h = absurd (cc)
+
+-- ---- whole histories
+
+module _ (plan : Plan) (part : Part) (n : ℕ) (stands : slice_get plan.parts n ≡ Some part) (some : has_items part.executor ≡ true) where
+  one_new : (state : State) (one : Entry) → adds_one plan state one ≡ true → (i : ℕ) → item_of n one.act ≡ Some i →
+    (has (ended_in state.shares n) i ≡ false) × (has (ended_in (after_entry plan state one).shares n) i ≡ true)
+  one_new state one h i is_it =
+    let P : Bool → Type 0 = λ b. is_asked_act one.act ≡ b → New plan state n i in
+    let fresh : P (is_asked_act one.act) = elim (is_asked_act one.act) as P [
+      true ↦ λ asked. wrote_new plan part state one.thread one.reading (one ∷ []) (one_wrote plan state one asked h) n i one.act stands some here is_it
+    | false ↦ λ unasked. absurd (some_not_none (sym is_it ∙ unasked_no_item n one.act unasked))
+    ] in
+    let new = fresh refl in
+    (new.unended, ended_now plan part state one.turn one.thread one.reading one.act n i stands new.share (new.owned part stands) is_it)
+
+  pair_gains : (state : State) (one two : Entry) → adds_two plan state one two ≡ true → is_gain one.act ≡ true
+  pair_gains state one two h =
+    let w = pair_wrote plan state one two h in
+    let acts : acts_of w.move ≡ one.act ∷ two.act ∷ [] =
+      sym (acts_back (state.entries + 1) one.thread one.reading (acts_of w.move)) ∙ ap (λ es. map (λ (e : Entry). e.act) es) w.wrote in
+    first_gains w.move one.act two.act acts
+
+  two_new : (state : State) (one two : Entry) → adds_two plan state one two ≡ true → (i : ℕ) → item_of n two.act ≡ Some i →
+    (has (ended_in state.shares n) i ≡ false) × (has (ended_in (after_entry plan (after_entry plan state one) two).shares n) i ≡ true)
+  two_new state one two h i is_it =
+    let w = pair_wrote plan state one two h in
+    let new = wrote_new plan part state one.thread one.reading (one ∷ two ∷ []) w n i two.act stands some (there here) is_it in
+    let gains = pair_gains state one two h in
+    let share = there_after plan state one.turn one.thread one.reading one.act n gains new.share in
+    (new.unended, ended_now plan part (after_entry plan state one) two.turn two.thread two.reading two.act n i stands share (new.owned part stands) is_it)
+
+  pub steps_once : (history : List Entry) (state : State) → are_steps plan state history ≡ true →
+    (unended (ended_in state.shares n) (items_in n history) ≡ true) × (is_distinct (items_in n history) ≡ true)
+  steps_once [] state h = (refl, refl)
+  steps_once (one ∷ []) state h =
+    front_once (ended_in state.shares n) (ended_in (after_entry plan state one).shares n) (item_of n one.act) [] (one_new state one h)
+      (ended_stays plan state one.turn one.thread one.reading one.act n) refl refl
+  steps_once (one ∷ two ∷ rest) state h =
+    elim (some_true (adds_one plan state one && are_steps plan (after_entry plan state one) (two ∷ rest)) _ h) [
+      inl first ↦
+        let both = both_true (adds_one plan state one) _ first in
+        let later = steps_once (two ∷ rest) (after_entry plan state one) both.1 in
+        front_once (ended_in state.shares n) (ended_in (after_entry plan state one).shares n) (item_of n one.act) (items_in n (two ∷ rest)) (one_new state one both.0)
+          (ended_stays plan state one.turn one.thread one.reading one.act n) later.0 later.1
+    | inr second ↦
+        let both = both_true (adds_two plan state one two) _ second in
+        let later = steps_once rest (after_entry plan (after_entry plan state one) two) both.1 in
+        let behind = front_once (ended_in state.shares n) (ended_in (after_entry plan (after_entry plan state one) two).shares n) (item_of n two.act) (items_in n rest)
+          (two_new state one two both.0)
+          (λ x e. ended_stays plan (after_entry plan state one) two.turn two.thread two.reading two.act n x (ended_stays plan state one.turn one.thread one.reading one.act n x e))
+          later.0 later.1 in
+        let none = gain_no_item n one.act (pair_gains state one two both.0) in
+        (rw none behind.0, rw none behind.1)
+    ]
