@@ -178,7 +178,7 @@ one_allowed plan state one within h =
 
 -- ---- how many users are made
 
-grows : Act → ℕ
+abbrev pub grows : Act → ℕ
 grows (Grow _ _ _) = 1
 grows _ = 0
 
@@ -187,9 +187,9 @@ made-end_item plan n item state =
     let P : Option Part → Type 0 = λ o. (option_map_or (λ part. change_share state n (end_item part item)) o state).made ≡ state.made in
     elim (slice_get plan.parts n) as P [ None ↦ refl | Some part ↦ refl ]
 
-made_after : (plan : Plan) (state : State) (at thread t : ℕ) (act : Act) →
+pub made_after : (plan : Plan) (state : State) (at thread t : ℕ) (act : Act) →
     (after_entry plan state (record { turn = at; thread = thread; act = act; reading = t })).made ≡ state.made + grows act
-unfolding grows
+
 made_after plan state at thread t (Take n user slot) = omega arith
 made_after plan state at thread t (Grow n user slot) = refl
 made_after plan state at thread t (Start n user item until) = made-end_item plan n item _ ∙ omega arith
@@ -220,7 +220,7 @@ grown-entries_of at thread t (act ∷ rest) = ap (λ n. grows act + n) (grown-en
 -- an enabled act grows no user beyond the limit
 move_within : (plan : Plan) (state : State) (n : ℕ) (s : Scenario) (t : ℕ) (move : Move) → state.made ≤ plan.limit →
     Source (users_of plan state) n s t move → state.made + grown_by (acts_of move) ≤ plan.limit
-unfolding grown_by grows
+unfolding grown_by
 move_within plan state n s t move within (by_stop h) = omega arith
 move_within plan state n s t move within (by_release u idle h) = omega arith
 move_within plan state n s t move within (by_take user slot free slots h) = omega arith
@@ -246,7 +246,7 @@ wrote_within plan state thread t entries within w =
     (rw (grown-entries_of (state.entries + 1) thread t (acts_of w.move)) bound)
 
 no_growth : (act : Act) → is_asked_act act ≡ false → grows act ≡ 0
-unfolding grows
+
 no_growth (Grow n user slot) h = absurd (cc)
 no_growth _ h = refl
 

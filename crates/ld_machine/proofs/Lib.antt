@@ -9,3 +9,4 @@ pub mod DropLemmas
 pub mod WaitLemmas
 pub mod FrontLemmas
 pub mod ItemLemmas
+pub mod HolderLemmas

@@ -1,5 +1,5 @@
 -- The state of the pool: the users that were made, each scenario's share, and what was commanded.
-use Rattle.std.specs.Prelude.{ℕ, Bool, true, false, not, ◌==◌, List, [], ◌∷◌, map, filter, flat_map, length}
+use Rattle.std.specs.Prelude.{◌+◌, if◌then◌else◌, ℕ, Bool, true, false, not, ◌==◌, List, [], ◌∷◌, map, filter, flat_map, length}
 use Rattle.std.specs.List.{list_all, list_any, range_with_len}
 use Rattle.ld_machine.specs.Plan.{Executor, ExternallyControlled, Part, Plan}
 
@@ -113,3 +113,13 @@ opening plan =
       entries = 0;
       samples = 0;
     }
+
+-- how many times a user is among some held users
+abbrev pub times_among : ℕ → List HeldUser → ℕ
+times_among user [] = 0
+times_among user (h ∷ rest) = (if h.user == user then 1 else 0) + times_among user rest
+
+-- how many times a user is held by all of some shares
+abbrev pub times_held : ℕ → List Share → ℕ
+times_held user [] = 0
+times_held user (share ∷ rest) = times_among user share.held + times_held user rest

@@ -7,7 +7,8 @@ ghost use Rattle.ld_base.specs.declared.entry.Entry.{Entry};
 ghost use Rattle.ld_base.specs.declared.metric.NameSpec.{NameSpec};
 ghost use Rattle.ld_machine.specs.Plan.{Part, Plan};
 ghost use Rattle.ld_machine.specs.Settled.{has_items, is_distinct, items_in};
-ghost use Rattle.ld_machine.specs.State.{State};
+ghost use Rattle.ld_machine.specs.State.{State, times_held};
+ghost use Rattle.ld_machine.specs.Effect.{state_after};
 ghost use Rattle.ld_machine.specs.Moves.{Move, enabled};
 ghost use Rattle.ld_machine.specs.Order.{place_of, first_moves};
 ghost use Rattle.ld_machine.specs.Samples.{tally_fits};
@@ -76,6 +77,15 @@ pub fn items_once()
     ensures {
         (plan : Plan) (history : List Entry) (n : ℕ) (part : Part) → IsLegal plan history → slice_get plan.parts n ≡ Some part →
             IsTrue (has_items part.executor) → IsTrue (is_distinct (items_in n history))
+    }
+{
+}
+
+/// Behind a legal history no user is held twice, by one scenario or by two; so it is busy with one
+/// iteration at most.
+pub fn held_once()
+    ensures {
+        (plan : Plan) (history : List Entry) (user : ℕ) → IsLegal plan history → times_held user (state_after plan history).shares ≤ 1
     }
 {
 }
