@@ -275,7 +275,7 @@ two_within plan state one two within h =
     omega arith
 
 -- the second of two entries of a step is a Start
-second_starts : (move : Move) (at thread t : ℕ) (one two : Entry) → entries_of at thread t (acts_of move) ≡ one ∷ two ∷ [] → is_start two.act ≡ true
+pub second_starts : (move : Move) (at thread t : ℕ) (one two : Entry) → entries_of at thread t (acts_of move) ≡ one ∷ two ∷ [] → is_start two.act ≡ true
 second_starts move at thread t one two h = starts_in move (sym (acts_back at thread t (acts_of move)) ∙ ap (λ es. map (λ (e : Entry). e.act) es) h)
   where
     starts_in : (move : Move) → acts_of move ≡ one.act ∷ two.act ∷ [] → is_start two.act ≡ true
