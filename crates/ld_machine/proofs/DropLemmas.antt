@@ -189,7 +189,6 @@ made-end_item plan n item state =
 
 pub made_after : (plan : Plan) (state : State) (at thread t : ℕ) (act : Act) →
     (after_entry plan state (record { turn = at; thread = thread; act = act; reading = t })).made ≡ state.made + grows act
-
 made_after plan state at thread t (Take n user slot) = omega arith
 made_after plan state at thread t (Grow n user slot) = refl
 made_after plan state at thread t (Start n user item until) = made-end_item plan n item _ ∙ omega arith
@@ -246,7 +245,6 @@ wrote_within plan state thread t entries within w =
     (rw (grown-entries_of (state.entries + 1) thread t (acts_of w.move)) bound)
 
 no_growth : (act : Act) → is_asked_act act ≡ false → grows act ≡ 0
-
 no_growth (Grow n user slot) h = absurd (cc)
 no_growth _ h = refl
 

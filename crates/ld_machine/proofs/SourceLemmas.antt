@@ -164,18 +164,18 @@ module _ (users : Users) (n : ℕ) (s : Scenario) (t : ℕ) where
   -- a user that is taken for an arrival is free
   pub take_answer : (user slot : ℕ) → In (TakeAndStart user slot) (answers s users t) → In user users.free
   take_answer user slot h = elim (In-cond (has_ended s t) (TakeAndStart user slot) (CountLate ∷ []) _ h) [
-      inl at ↦ let same = In-one (TakeAndStart user slot) CountLate at.1 in absurd (cc)
+    | inl at ↦ let same = In-one (TakeAndStart user slot) CountLate at.1 in absurd (cc)
     | inr at ↦ elim (In-cond (is_some (first_of (idle_users s.share))) (TakeAndStart user slot) (map (λ (u : HeldUser). StartOn u.user) (idle_users s.share)) _ at.1) [
-        inl on ↦ let found = In-map (λ (u : HeldUser). StartOn u.user) (TakeAndStart user slot) (idle_users s.share) on.1 in absurd (cc)
+      | inl on ↦ let found = In-map (λ (u : HeldUser). StartOn u.user) (TakeAndStart user slot) (idle_users s.share) on.1 in absurd (cc)
       | inr no_idle ↦ elim (In-cond (may_hold_more s && nat_lt users.made users.limit) (TakeAndStart user slot) (GrowAndStart (users.made + 1) (held_count s.share) ∷ []) _ no_idle.1) [
-          inl grown ↦ let same = In-one (TakeAndStart user slot) (GrowAndStart (users.made + 1) (held_count s.share)) grown.1 in absurd (cc)
+        | inl grown ↦ let same = In-one (TakeAndStart user slot) (GrowAndStart (users.made + 1) (held_count s.share)) grown.1 in absurd (cc)
         | inr no_grow ↦ elim (In-cond (may_hold_more s && is_some (first_of users.free)) (TakeAndStart user slot) (map (λ user. TakeAndStart user (held_count s.share)) users.free) (DropArrival ∷ []) no_grow.1) [
-            inl taken ↦
+          | inl taken ↦
               let found = In-map (λ user. TakeAndStart user (held_count s.share)) (TakeAndStart user slot) users.free taken.1 in
               let same : found.0 ≡ user = cc in
               subst (λ u. In u users.free) same found.1
           | inr dropped ↦ let same = In-one (TakeAndStart user slot) DropArrival dropped.1 in absurd (cc)
-          ]
         ]
       ]
     ]
+  ]

@@ -1,8 +1,8 @@
 -- Up to the moment to wait for, the clock enables nothing.
-use Rattle.std.proofs.Common.{◌≡◌, ◌<◌, ◌≤◌, ◌+◌, ◌==◌, ℕ, Bool, true, false, not, cond, ◌&&◌, ◌||◌, nat_le, nat_lt, List, [], ◌∷◌, ◌++◌, Option, None, Some, min, map, filter, filter_map, flat_map, find, arith, refl, sym, ap, ◌∙◌, subst, inl, inr, ◌⊎◌}
+use Rattle.std.proofs.Common.{◌≡◌, ◌<◌, ◌≤◌, ℕ, Bool, true, false, not, cond, ◌&&◌, ◌||◌, nat_le, nat_lt, List, [], ◌∷◌, ◌++◌, Option, None, Some, min, map, filter, filter_map, flat_map, find, arith, refl, sym, ap, ◌∙◌, subst}
 use Rattle.std.specs.Prelude.{option_map, option_to_list, unwrap_or}
 use Rattle.std.specs.Option.{option_map_or}
-use Rattle.std.specs.List.{enumerate_from, cons_option}
+use Rattle.std.specs.List.{enumerate_from}
 use Rattle.std.proofs.Math.Decide.{dec_lt}
 use Rattle.std.proofs.lemmas.Grind.{common_steps}
 use Rattle.ld_base.specs.declared.reply.Reply.{Reply}
@@ -11,8 +11,8 @@ use Rattle.ld_base.specs.declared.reply.Room.{Room}
 use Rattle.ld_base.specs.declared.reply.Room.TheVariants.{Entries, Samples}
 use Rattle.ld_machine.specs.Moment.{moment_after}
 use Rattle.ld_machine.specs.Plan.{Interval, RampingSlot, Arrival, Executor, SharedIterations, PerVuIterations, ConstantVus, RampingVus, ArrivalRate, ExternallyControlled, Part, Plan, on_moment, off_moment, due_moment}
-use Rattle.ld_machine.specs.State.{Level, Runs, StartsNothing, Halted, HeldUser, Share, State, idle_users, all_closed}
-use Rattle.ld_machine.specs.Scenario.{Scenario, is_open, level_runs, runs, has_begun, has_ended, is_live, is_within, interval_at, where_holds, executor_may_take, may_take, slots_to_take, executor_may_release, may_release, executor_item_to_start, item_to_start, executor_until, until_of, executor_item_to_drop, item_to_drop, level_may_stop, may_stop, executor_may_close, may_close, least_open_arrival, due_arrival, is_due}
+use Rattle.ld_machine.specs.State.{Level, Runs, StartsNothing, Halted, HeldUser, State, idle_users, all_closed}
+use Rattle.ld_machine.specs.Scenario.{Scenario, is_open, level_runs, runs, has_begun, has_ended, is_live, is_within, interval_at, where_holds, executor_may_take, may_take, slots_to_take, executor_may_release, may_release, executor_item_to_start, executor_until, executor_item_to_drop, item_to_drop, level_may_stop, may_stop, executor_may_close, may_close, least_open_arrival, due_arrival, is_due}
 use Rattle.ld_machine.specs.Moves.{Answer, CountLate, StartOn, GrowAndStart, TakeAndStart, DropArrival, Move, StopScenario, ReleaseUser, TakeUser, AnswerArrival, StartIteration, DropIteration, CloseScenario, Users, users_of, answers, stops, releases, takes, arrivals, answers_to, starts, start_on, drops, closes, moves_of, scenarios, enabled}
 use Rattle.ld_machine.specs.Order.{first_moves}
 use Rattle.ld_machine.specs.Acts.{acts_of, added_entries, made_busy, scenario_of}
@@ -21,7 +21,7 @@ use Rattle.ld_machine.specs.Room.{entries_with, samples_with, entries_refusal, s
 use Rattle.ld_machine.specs.Step.{Result, answered, performed, move_result, open_results, act_results}
 use Rattle.ld_machine.specs.Wait.{interval_moments, ramping_moments, level_moments, scenario_moments, untils, candidates, least_of, next_candidate, short_wait, is_external_open, wait_moment}
 use Rattle.ld_machine.specs.Rehearsal.{NothingEnabled}
-use Rattle.ld_machine.proofs.ListLemmas.{In, here, there, nothing_in, filter-In, In-enumerate, In-map}
+use Rattle.ld_machine.proofs.ListLemmas.{In, here, there, filter-In, In-enumerate, In-map}
 use Rattle.ld_machine.proofs.OrderLemmas.{none_first}
 use Rattle.ld_machine.proofs.SourceLemmas.{In-one}
 use Rattle.ld_machine.proofs.StopLemmas.{no_take, no_start, no_drop}
@@ -73,24 +73,24 @@ module _ (s : Scenario) (t x : ℕ) (running : runs s ≡ true) (agree : Agree (
 
 within_same : (part : Part) (t x : ℕ) (i : Interval) → Agree (interval_moments part i) t x → is_within part t i ≡ is_within part x i
 within_same part t x i agree =
-  rw (agree (on_moment part i) here, below_same (off_moment part i) t x (agree (off_moment part i) (there here))) refl
+    rw (agree (on_moment part i) here, below_same (off_moment part i) t x (agree (off_moment part i) (there here))) refl
 
 find_within_same : (part : Part) (t x : ℕ) (intervals : List Interval) → Agree (flat_map (interval_moments part) intervals) t x →
-  find (is_within part t) intervals ≡ find (is_within part x) intervals
+    find (is_within part t) intervals ≡ find (is_within part x) intervals
 find_within_same part t x [] agree = refl
 find_within_same part t x (i ∷ rest) agree =
-  let first = within_same part t x i (λ c at. agree c (In-left c (flat_map (interval_moments part) rest) at)) in
-  let others = find_within_same part t x rest (λ c at. agree c (In-right c (interval_moments part i) at)) in
-  rw (first, others) refl
+    let first = within_same part t x i (λ c at. agree c (In-left c (flat_map (interval_moments part) rest) at)) in
+    let others = find_within_same part t x rest (λ c at. agree c (In-right c (interval_moments part i) at)) in
+    rw (first, others) refl
 
 interval_same : (part : Part) (slots : List RampingSlot) (slot t x : ℕ) →
-  Agree (flat_map (λ (r : RampingSlot). flat_map (interval_moments part) r.intervals) slots) t x →
-  interval_at part slots slot t ≡ interval_at part slots slot x
+    Agree (flat_map (λ (r : RampingSlot). flat_map (interval_moments part) r.intervals) slots) t x →
+    interval_at part slots slot t ≡ interval_at part slots slot x
 interval_same part [] slot t x agree = refl
 interval_same part (r ∷ rest) slot t x agree =
-  let first = find_within_same part t x r.intervals (λ c at. agree c (In-left c (flat_map (λ (q : RampingSlot). flat_map (interval_moments part) q.intervals) rest) at)) in
-  let others = interval_same part rest slot t x (λ c at. agree c (In-right c (flat_map (interval_moments part) r.intervals) at)) in
-  rw (first, others) refl
+    let first = find_within_same part t x r.intervals (λ c at. agree c (In-left c (flat_map (λ (q : RampingSlot). flat_map (interval_moments part) q.intervals) rest) at)) in
+    let others = interval_same part rest slot t x (λ c at. agree c (In-right c (flat_map (interval_moments part) r.intervals) at)) in
+    rw (first, others) refl
 
 -- the executor's tests agree where the scenario's moments do
 module _ (s : Scenario) (t x : ℕ) (live : is_live s t ≡ is_live s x) (begun : has_begun s t ≡ has_begun s x) (ended : has_ended s t ≡ has_ended s x) where
@@ -160,27 +160,27 @@ both false b h = absurd (cc)
 -- the moments of a scenario that runs
 running_moments : (s : Scenario) (t x : ℕ) → runs s ≡ true → Agree (scenario_moments s) t x → Agree (level_moments Runs s) t x
 running_moments s t x running agree =
-  let parts = both (is_open s) (level_runs s.share.level) running in
-  let opened : Agree (level_moments s.share.level s) t x =
+    let parts = both (is_open s) (level_runs s.share.level) running in
+    let opened : Agree (level_moments s.share.level s) t x =
     subst (λ b. Agree (cond b (level_moments s.share.level s) []) t x) parts.0 agree in
-  subst (λ level. Agree (level_moments level s) t x) (level_is s.share.level parts.1) opened
+    subst (λ level. Agree (level_moments level s) t x) (level_is s.share.level parts.1) opened
 
 stop_same_in : (s : Scenario) (t x : ℕ) (opened : Bool) (level : Level) → Agree (cond opened (level_moments level s) []) t x →
-  (opened && level_may_stop level s.part.grace t) ≡ (opened && level_may_stop level s.part.grace x)
+    (opened && level_may_stop level s.part.grace t) ≡ (opened && level_may_stop level s.part.grace x)
 stop_same_in s t x false level agree = refl
 stop_same_in s t x true Runs agree = refl
 stop_same_in s t x true (StartsNothing q) agree = agree (moment_after q s.part.grace) here
 stop_same_in s t x true Halted agree = refl
 
 due_same_in : (s : Scenario) (t x : ℕ) (running : Bool) (least : Option Arrival) → Agree (option_to_list (option_map (due_moment s.part) least)) t x →
-  find (is_due s t) (option_map_or (λ (a : Arrival). a ∷ []) (where_holds running least) [])
+    find (is_due s t) (option_map_or (λ (a : Arrival). a ∷ []) (where_holds running least) [])
     ≡ find (is_due s x) (option_map_or (λ (a : Arrival). a ∷ []) (where_holds running least) [])
 due_same_in s t x false least agree = refl
 due_same_in s t x true None agree = refl
 due_same_in s t x true (Some a) agree = rw (agree (due_moment s.part a) here) refl
 
 answers_to_same : (n : ℕ) (s : Scenario) (users : Users) (t x : ℕ) (due : Option Arrival) → answers s users t ≡ answers s users x →
-  option_map_or (answers_to n s users t) due [] ≡ option_map_or (answers_to n s users x) due []
+    option_map_or (answers_to n s users t) due [] ≡ option_map_or (answers_to n s users x) due []
 answers_to_same n s users t x None same = refl
 answers_to_same n s users t x (Some a) same = rw same refl
 
@@ -196,100 +196,100 @@ record SameCells (users : Users) (n : ℕ) (s : Scenario) (t x : ℕ) : Type 0 w
 
 same_running : (users : Users) (n : ℕ) (s : Scenario) (t x : ℕ) → runs s ≡ true → Agree (scenario_moments s) t x → SameCells users n s t x
 same_running users n s t x running agree =
-  let moments = running_moments s t x running agree in
-  let live = live_same s t x running moments in
-  let begun = begun_same s t x running moments in
-  let ended = ended_same s t x running moments in
-  let ramps : Agree (ramping_moments s.part.executor s.part) t x =
+    let moments = running_moments s t x running agree in
+    let live = live_same s t x running moments in
+    let begun = begun_same s t x running moments in
+    let ended = ended_same s t x running moments in
+    let ramps : Agree (ramping_moments s.part.executor s.part) t x =
     λ c at. moments c (In-right c (s.part.begin ∷ s.part.end ∷ option_to_list (option_map (due_moment s.part) (least_open_arrival s))) at) in
-  let dues : Agree (option_to_list (option_map (due_moment s.part) (least_open_arrival s))) t x =
+    let dues : Agree (option_to_list (option_map (due_moment s.part) (least_open_arrival s))) t x =
     λ c at. moments c (there (there (In-left c (ramping_moments s.part.executor s.part) at))) in
-  record {
-    stop = stop_same_in s t x (is_open s) s.share.level agree;
-    release = λ slot. ap (λ b. is_open s && (not (runs s) || b)) (release_same s t x live begun ended s.part.executor slot ramps);
-    take = λ slot. take_same s t x live begun ended s.part.executor slot ramps;
-    arrival =
-      answers_to_same n s users t x (due_arrival s t) (answers_same s t x live begun ended users)
-        ∙ ap (λ o. option_map_or (answers_to n s users x) o []) (due_same_in s t x (runs s) (least_open_arrival s) dues);
-    start = λ h. rw (start_same s t x live begun ended s.part.executor h.slot ramps, until_same s t x live begun ended s.part.executor h.slot ramps) refl;
-    drop = drop_same s t x live begun ended s.part.executor;
-    close = rw (close_same s t x live begun ended s.part.executor) refl
-  }
+    record {
+      stop = stop_same_in s t x (is_open s) s.share.level agree;
+      release = λ slot. ap (λ b. is_open s && (not (runs s) || b)) (release_same s t x live begun ended s.part.executor slot ramps);
+      take = λ slot. take_same s t x live begun ended s.part.executor slot ramps;
+      arrival =
+          answers_to_same n s users t x (due_arrival s t) (answers_same s t x live begun ended users)
+          ∙ ap (λ o. option_map_or (answers_to n s users x) o []) (due_same_in s t x (runs s) (least_open_arrival s) dues);
+      start = λ h. rw (start_same s t x live begun ended s.part.executor h.slot ramps, until_same s t x live begun ended s.part.executor h.slot ramps) refl;
+      drop = drop_same s t x live begun ended s.part.executor;
+      close = rw (close_same s t x live begun ended s.part.executor) refl;
+    }
 
 same_stopped : (users : Users) (n : ℕ) (s : Scenario) (t x : ℕ) → runs s ≡ false → Agree (scenario_moments s) t x → SameCells users n s t x
 same_stopped users n s t x stopped agree =
-  let no_due : (at : ℕ) → due_arrival s at ≡ None = λ at. rw stopped refl in
-  let no_arrival : (at : ℕ) → arrivals n s users at ≡ [] = λ at. ap (λ o. option_map_or (answers_to n s users at) o []) (no_due at) in
-  record {
-    stop = stop_same_in s t x (is_open s) s.share.level agree;
-    release = λ slot. rw stopped refl;
-    take = λ slot. no_take s.part.executor s slot t stopped ∙ sym (no_take s.part.executor s slot x stopped);
-    arrival = no_arrival t ∙ sym (no_arrival x);
-    start = λ h. rw (no_start s.part.executor s h.slot t stopped, no_start s.part.executor s h.slot x stopped) refl;
-    drop = no_drop s.part.executor s t stopped ∙ sym (no_drop s.part.executor s x stopped);
-    close = rw stopped refl
-  }
+    let no_due : (at : ℕ) → due_arrival s at ≡ None = λ at. rw stopped refl in
+    let no_arrival : (at : ℕ) → arrivals n s users at ≡ [] = λ at. ap (λ o. option_map_or (answers_to n s users at) o []) (no_due at) in
+    record {
+      stop = stop_same_in s t x (is_open s) s.share.level agree;
+      release = λ slot. rw stopped refl;
+      take = λ slot. no_take s.part.executor s slot t stopped ∙ sym (no_take s.part.executor s slot x stopped);
+      arrival = no_arrival t ∙ sym (no_arrival x);
+      start = λ h. rw (no_start s.part.executor s h.slot t stopped, no_start s.part.executor s h.slot x stopped) refl;
+      drop = no_drop s.part.executor s t stopped ∙ sym (no_drop s.part.executor s x stopped);
+      close = rw stopped refl;
+    }
 
 same_cells : (users : Users) (n : ℕ) (s : Scenario) (t x : ℕ) → Agree (scenario_moments s) t x → SameCells users n s t x
 same_cells users n s t x agree =
-  let P : Bool → Type 0 = λ b. runs s ≡ b → SameCells users n s t x in
-  let same : P (runs s) = elim (runs s) as P [
-    true ↦ λ running. same_running users n s t x running agree
-  | false ↦ λ stopped. same_stopped users n s t x stopped agree
-  ] in same refl
+    let P : Bool → Type 0 = λ b. runs s ≡ b → SameCells users n s t x in
+    let same : P (runs s) = elim (runs s) as P [
+      | true ↦ λ running. same_running users n s t x running agree
+      | false ↦ λ stopped. same_stopped users n s t x stopped agree
+    ] in same refl
 
 moves_same : (users : Users) (n : ℕ) (s : Scenario) (t x : ℕ) → Agree (scenario_moments s) t x → moves_of users n s t ≡ moves_of users n s x
 moves_same users n s t x agree =
-  let same = same_cells users n s t x agree in
-  let stop : stops n s t ≡ stops n s x = rw same.stop refl in
-  let release : releases n s t ≡ releases n s x =
+    let same = same_cells users n s t x agree in
+    let stop : stops n s t ≡ stops n s x = rw same.stop refl in
+    let release : releases n s t ≡ releases n s x =
     ap (λ us. map (λ (h : HeldUser). ReleaseUser n h.user) us) (filter_same (λ (h : HeldUser). may_release s h.slot t) (λ (h : HeldUser). may_release s h.slot x) (idle_users s.share) (λ h. same.release h.slot)) in
-  let take : takes n s users t ≡ takes n s users x =
+    let take : takes n s users t ≡ takes n s users x =
     ap (λ slots. flat_map (λ slot. map (λ user. TakeUser n user slot) users.free) slots) (filter_same (λ slot. may_take s slot t) (λ slot. may_take s slot x) (slots_to_take s.part.executor s) same.take) in
-  let start : starts n s t ≡ starts n s x = filter_map_same (start_on n s t) (start_on n s x) (idle_users s.share) same.start in
-  let drop : drops n s t ≡ drops n s x = rw same.drop refl in
-  let close : closes n s t ≡ closes n s x = rw same.close refl in
-  rw (stop, release, take, same.arrival, start, drop, close) refl
+    let start : starts n s t ≡ starts n s x = filter_map_same (start_on n s t) (start_on n s x) (idle_users s.share) same.start in
+    let drop : drops n s t ≡ drops n s x = rw same.drop refl in
+    let close : closes n s t ≡ closes n s x = rw same.close refl in
+    rw (stop, release, take, same.arrival, start, drop, close) refl
 
 -- ---- the whole state
 
 -- where no candidate is passed, the same acts are enabled
 pub enabled_same : (plan : Plan) (state : State) (t x : ℕ) → Agree (candidates plan state) t x → enabled plan state t ≡ enabled plan state x
 enabled_same plan state t x agree =
-  flat_map_same (λ (p : ℕ × Scenario). moves_of (users_of plan state) p.0 p.1 t) (λ (p : ℕ × Scenario). moves_of (users_of plan state) p.0 p.1 x)
+    flat_map_same (λ (p : ℕ × Scenario). moves_of (users_of plan state) p.0 p.1 t) (λ (p : ℕ × Scenario). moves_of (users_of plan state) p.0 p.1 x)
     (enumerate_from 0 (scenarios plan state))
     (λ p at.
-      let there_is = (In-enumerate 0 p (scenarios plan state) at).0 in
-      moves_same (users_of plan state) p.0 p.1 t x
-        (λ c of_it. agree c (In-left c (flat_map untils state.shares) (flat_map-In scenario_moments p.1 c there_is of_it))))
+    let there_is = (In-enumerate 0 p (scenarios plan state) at).0 in
+    moves_same (users_of plan state) p.0 p.1 t x
+    (λ c of_it. agree c (In-left c (flat_map untils state.shares) (flat_map-In scenario_moments p.1 c there_is of_it))))
 
 -- the least of some moments is there, and no later than any
 least_below : (c : ℕ) {moments : List ℕ} → In c moments → (m : ℕ) × (least_of moments ≡ Some m) × (m ≤ c)
 least_below c (here {xs = xs}) =
-  let P : Option ℕ → Type 0 = λ o. (m : ℕ) × (Some (option_map_or (min c) o c) ≡ Some m) × (m ≤ c) in
-  elim (least_of xs) as P [ None ↦ (c, refl, omega arith) | Some k ↦ (min c k, refl, omega arith) ]
+    let P : Option ℕ → Type 0 = λ o. (m : ℕ) × (Some (option_map_or (min c) o c) ≡ Some m) × (m ≤ c) in
+    elim (least_of xs) as P [ None ↦ (c, refl, omega arith) | Some k ↦ (min c k, refl, omega arith) ]
 least_below c (there {y = y} {xs = xs} more) =
-  let later = least_below c more in
-  (min y later.0, rw later.1 refl, let e : later.0 ≤ c = later.2 in omega arith)
+    let later = least_below c more in
+    (min y later.0, rw later.1 refl, let e : later.0 ≤ c = later.2 in omega arith)
 
 -- a candidate above t is no earlier than the moment to wait for
 wait_before : (plan : Plan) (state : State) (t c : ℕ) → In c (candidates plan state) → t < c → wait_moment plan state t ≤ c
 wait_before plan state t c at above =
-  let passes : nat_lt t c ≡ true = grind (arith, common_steps) in
-  let least = least_below c (filter-In (nat_lt t) c at passes) in
-  let below : least.0 ≤ c = least.2 in
-  let P : Bool → Type 0 = λ b. cond b
-      (option_map_or (min (moment_after t short_wait)) (next_candidate plan state t) (moment_after t short_wait))
-      (unwrap_or (next_candidate plan state t) (moment_after t short_wait)) ≤ c in
-  elim (is_external_open plan state) as P [ true ↦ rw least.1 (omega arith) | false ↦ rw least.1 below ]
+    let passes : nat_lt t c ≡ true = grind (arith, common_steps) in
+    let least = least_below c (filter-In (nat_lt t) c at passes) in
+    let below : least.0 ≤ c = least.2 in
+    let P : Bool → Type 0 = λ b. cond b
+    (option_map_or (min (moment_after t short_wait)) (next_candidate plan state t) (moment_after t short_wait))
+    (unwrap_or (next_candidate plan state t) (moment_after t short_wait)) ≤ c in
+    elim (is_external_open plan state) as P [ true ↦ rw least.1 (omega arith) | false ↦ rw least.1 below ]
 
 -- up to the moment to wait for no candidate is passed
 pub wait_agrees : (plan : Plan) (state : State) (t x : ℕ) → t ≤ x → x < wait_moment plan state t → Agree (candidates plan state) t x
 wait_agrees plan state t x from to c at =
-  elim (dec_lt t c) [
-    yes above ↦ let wait = wait_before plan state t c at above in let later : x < c = omega arith in grind (arith, common_steps)
-  | no notabove ↦ let first : c ≤ t = omega arith in let second : c ≤ x = omega arith in grind (arith, common_steps)
-  ]
+    elim (dec_lt t c) [
+      | yes above ↦ let wait = wait_before plan state t c at above in let later : x < c = omega arith in grind (arith, common_steps)
+      | no notabove ↦ let first : c ≤ t = omega arith in let second : c ≤ x = omega arith in grind (arith, common_steps)
+    ]
 
 pub nothing_while_waiting : (plan : Plan) (state : State) (t : ℕ) → enabled plan state t ≡ [] → NothingEnabled plan state t (wait_moment plan state t)
 nothing_while_waiting plan state t none x from to = sym (enabled_same plan state t x (wait_agrees plan state t x from to)) ∙ none
@@ -329,17 +329,17 @@ no_wait_none reply h = absurd (cc)
 
 no_wait_samples : (plan : Plan) (state : State) (n : ℕ) (b : Bool) (reply : Reply) → cond b (samples_refusal plan state n) None ≡ Some reply → wait_in reply ≡ None
 no_wait_samples plan state n true reply h =
-  no_wait_cond (nat_lt plan.entry_limit (samples_with plan state n)) Samples (samples_with plan state n) plan.entry_limit reply h
+    no_wait_cond (nat_lt plan.entry_limit (samples_with plan state n)) Samples (samples_with plan state n) plan.entry_limit reply h
 no_wait_samples plan state n false reply h = no_wait_none reply h
 
 no_wait_else : (first second : Option Reply) → ((reply : Reply) → first ≡ Some reply → wait_in reply ≡ None) → ((reply : Reply) → second ≡ Some reply → wait_in reply ≡ None) →
-  (reply : Reply) → or_else first second ≡ Some reply → wait_in reply ≡ None
+    (reply : Reply) → or_else first second ≡ Some reply → wait_in reply ≡ None
 no_wait_else None second f s reply h = s reply h
 no_wait_else (Some r) second f s reply h = f reply h
 
 no_wait_refusal : (plan : Plan) (state : State) (move : Move) (reply : Reply) → room_refusal plan state move ≡ Some reply → wait_in reply ≡ None
 no_wait_refusal plan state move reply h =
-  no_wait_else (entries_refusal plan state (added_entries move) (made_busy move))
+    no_wait_else (entries_refusal plan state (added_entries move) (made_busy move))
     (cond (nat_lt 0 (made_busy move)) (samples_refusal plan state (scenario_of move)) None)
     (λ r e. no_wait_cond (nat_lt plan.entry_limit (entries_with state (added_entries move) (made_busy move))) Entries (entries_with state (added_entries move) (made_busy move)) plan.entry_limit r e)
     (λ r e. no_wait_samples plan state (scenario_of move) (nat_lt 0 (made_busy move)) r e)
@@ -347,42 +347,42 @@ no_wait_refusal plan state move reply h =
 
 no_wait_result : (plan : Plan) (state : State) (thread t : ℕ) (move : Move) → wait_in (move_result plan state thread t move).reply ≡ None
 no_wait_result plan state thread t move =
-  let P : Option Reply → Type 0 = λ o. room_refusal plan state move ≡ o →
+    let P : Option Reply → Type 0 = λ o. room_refusal plan state move ≡ o →
     wait_in (option_map_or (answered state) o (performed plan state thread t (reply_to move) (acts_of move))).reply ≡ None in
-  let none : P (room_refusal plan state move) = elim (room_refusal plan state move) as P [
-    None ↦ λ e. no_wait_move move
-  | Some reply ↦ λ e. no_wait_refusal plan state move reply e
-  ] in none refl
+    let none : P (room_refusal plan state move) = elim (room_refusal plan state move) as P [
+      | None ↦ λ e. no_wait_move move
+      | Some reply ↦ λ e. no_wait_refusal plan state move reply e
+    ] in none refl
 
 some_not_none : {A : Type 0} {x : A} → Some x ≡ None → ⊥
 some_not_none e = cc
 
 -- an open pool's wait is for the moment to wait for, where nothing is enabled
 open_waits : (plan : Plan) (state : State) (thread t m : ℕ) (moves : List Move) (r : Result) → In r (open_results plan state thread t moves) → wait_in r.reply ≡ Some m →
-  (moves ≡ []) × (wait_moment plan state t ≡ m)
+    (moves ≡ []) × (wait_moment plan state t ≡ m)
 unfolding wait_in
 open_waits plan state thread t m [] r h waits =
-  let same = In-one r (answered state (Wait (wait_moment plan state t))) h in
-  let told : Some (wait_moment plan state t) ≡ Some m = ap (λ (q : Result). wait_in q.reply) same ∙ waits in
-  (refl, cc)
+    let same = In-one r (answered state (Wait (wait_moment plan state t))) h in
+    let told : Some (wait_moment plan state t) ≡ Some m = ap (λ (q : Result). wait_in q.reply) same ∙ waits in
+    (refl, cc)
 open_waits plan state thread t m (move ∷ rest) r h waits =
-  let found = In-map (move_result plan state thread t) r (move ∷ rest) h in
-  let none = sym (ap (λ (q : Result). wait_in q.reply) found.2) ∙ no_wait_result plan state thread t found.0 in
-  absurd (some_not_none (sym waits ∙ none))
+    let found = In-map (move_result plan state thread t) r (move ∷ rest) h in
+    let none = sym (ap (λ (q : Result). wait_in q.reply) found.2) ∙ no_wait_result plan state thread t found.0 in
+    absurd (some_not_none (sym waits ∙ none))
 
 pub waits_for : (plan : Plan) (state : State) (thread t m : ℕ) → In (Wait m) (map (λ (r : Result). r.reply) (act_results plan state thread t)) →
-  (enabled plan state t ≡ []) × (wait_moment plan state t ≡ m)
+    (enabled plan state t ≡ []) × (wait_moment plan state t ≡ m)
 unfolding wait_in
 waits_for plan state thread t m h =
-  let found = In-map (λ (r : Result). r.reply) (Wait m) (act_results plan state thread t) h in
-  let waits : wait_in found.0.reply ≡ Some m = ap wait_in found.2 in
-  let P : Bool → Type 0 = λ b. In found.0 (cond b (answered state Over ∷ []) (open_results plan state thread t (first_moves plan state t))) → (enabled plan state t ≡ []) × (wait_moment plan state t ≡ m) in
-  let tells : P (all_closed state) = elim (all_closed state) as P [
-    true ↦ λ at. let none = ap (λ (q : Result). wait_in q.reply) (In-one found.0 (answered state Over) at) in absurd (some_not_none (sym waits ∙ sym none))
-  | false ↦ λ at. let it = open_waits plan state thread t m (first_moves plan state t) found.0 at waits in (none_first (enabled plan state t) it.0, it.1)
-  ] in tells found.1
+    let found = In-map (λ (r : Result). r.reply) (Wait m) (act_results plan state thread t) h in
+    let waits : wait_in found.0.reply ≡ Some m = ap wait_in found.2 in
+    let P : Bool → Type 0 = λ b. In found.0 (cond b (answered state Over ∷ []) (open_results plan state thread t (first_moves plan state t))) → (enabled plan state t ≡ []) × (wait_moment plan state t ≡ m) in
+    let tells : P (all_closed state) = elim (all_closed state) as P [
+      | true ↦ λ at. let none = ap (λ (q : Result). wait_in q.reply) (In-one found.0 (answered state Over) at) in absurd (some_not_none (sym waits ∙ sym none))
+      | false ↦ λ at. let it = open_waits plan state thread t m (first_moves plan state t) found.0 at waits in (none_first (enabled plan state t) it.0, it.1)
+    ] in tells found.1
 
 pub reply_waits : (plan : Plan) (state : State) (thread t m : ℕ) → In (Wait m) (map (λ (r : Result). r.reply) (act_results plan state thread t)) → NothingEnabled plan state t m
 reply_waits plan state thread t m h =
-  let told = waits_for plan state thread t m h in
-  subst (λ moment. NothingEnabled plan state t moment) told.1 (nothing_while_waiting plan state t told.0)
+    let told = waits_for plan state thread t m h in
+    subst (λ moment. NothingEnabled plan state t moment) told.1 (nothing_while_waiting plan state t told.0)

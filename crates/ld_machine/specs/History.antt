@@ -107,8 +107,8 @@ first_illegal plan history =
 -- the entries end between the two entries of one step: all but the last are legal, and the last is
 -- the first of two
 pub record EndsInside (plan : Plan) (entries : List Entry) : Type 0 where
-    pub before : List Entry
-    pub one : Entry
-    pub parts : entries ≡ before ++ one ∷ []
-    pub legal : IsLegal plan before
-    pub begins : IsTrue (begins_two plan (state_after plan before) one)
+  pub before : List Entry
+  pub one : Entry
+  pub parts : entries ≡ before ++ one ∷ []
+  pub legal : IsLegal plan before
+  pub begins : IsTrue (begins_two plan (state_after plan before) one)

@@ -57,35 +57,23 @@ pub fn dropped_and_late()
 /// Where an ask for an act is answered by a wait for a moment, no act is enabled at any moment from
 /// the reading up to and without that one.
 pub fn waits()
-    ensures {
-        (plan : Plan) (state : State) (thread t m : ℕ) →
-            Contains (replies plan state thread asks.Act t) (Wait m) → NothingEnabled plan state t m
-    }
-{
-}
+    ensures { (plan : Plan) (state : State) (thread t m : ℕ) →
+        Contains (replies plan state thread asks.Act t) (Wait m) → NothingEnabled plan state t m }
+{}
 
 /// A front of a legal history is legal, unless it ends between the two entries of one step.
 pub fn fronts()
-    ensures {
-        (plan : Plan) (front rest : List Entry) → IsLegal plan (front ++ rest) → IsLegal plan front ⊎ EndsInside plan front
-    }
-{
-}
+    ensures { (plan : Plan) (front rest : List Entry) → IsLegal plan (front ++ rest) → IsLegal plan front ⊎ EndsInside plan front }
+{}
 
 /// No item of a scenario is started, dropped or counted late twice.
 pub fn items_once()
-    ensures {
-        (plan : Plan) (history : List Entry) (n : ℕ) (part : Part) → IsLegal plan history → slice_get plan.parts n ≡ Some part →
-            IsTrue (has_items part.executor) → IsTrue (is_distinct (items_in n history))
-    }
-{
-}
+    ensures { (plan : Plan) (history : List Entry) (n : ℕ) (part : Part) → IsLegal plan history → slice_get plan.parts n ≡ Some part →
+        IsTrue (has_items part.executor) → IsTrue (is_distinct (items_in n history)) }
+{}
 
 /// Behind a legal history no user is held twice, by one scenario or by two; so it is busy with one
 /// iteration at most.
 pub fn held_once()
-    ensures {
-        (plan : Plan) (history : List Entry) (user : ℕ) → IsLegal plan history → times_held user (state_after plan history).shares ≤ 1
-    }
-{
-}
+    ensures { (plan : Plan) (history : List Entry) (user : ℕ) → IsLegal plan history → times_held user (state_after plan history).shares ≤ 1 }
+{}

@@ -5,7 +5,7 @@ use Rattle.ld_machine.proofs.laws.fronts.Goals as goal
 
 pub returns : goal.returns
 returns c plan front rest h =
-  elim (front_steps plan front rest (opening plan) h) [
-    inl whole ↦ inl whole
-  | inr inside ↦ inr (record { before = inside.before; one = inside.one; parts = inside.parts; legal = inside.legal; begins = inside.begins })
-  ]
+    elim (front_steps plan front rest (opening plan) h) [
+      | inl whole ↦ inl whole
+      | inr inside ↦ inr (record { before = inside.before; one = inside.one; parts = inside.parts; legal = inside.legal; begins = inside.begins })
+    ]

@@ -7,4 +7,4 @@ use Rattle.ld_machine.proofs.laws.waits.Goals as goal
 
 pub returns : goal.returns
 returns c plan state thread t m h =
-  reply_waits plan state thread t m (In-from_Contains (Wait m) (replies plan state thread asks.Act t) h.0 h.1 h.2)
+    reply_waits plan state thread t m (In-from_Contains (Wait m) (replies plan state thread asks.Act t) h.0 h.1 h.2)
