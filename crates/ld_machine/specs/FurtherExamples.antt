@@ -1,5 +1,6 @@
 -- Further worked examples: ramping users, two scenarios, late arrivals, a full journal, and control.
-use Rattle.std.specs.Prelude.{ℕ, List, [], ◌∷◌}
+use Rattle.std.specs.Prelude.{ℕ, true, false, List, [], ◌∷◌}
+use Rattle.ld_base.specs.Tally.{TallyView}
 use Rattle.ld_base.specs.declared.act.Act.TheVariants.{Take, Start, Late, Return, Release, Stop, Close, Control}
 use Rattle.ld_base.specs.declared.act.Outcome.TheVariants.{Done, Interrupted}
 use Rattle.ld_base.specs.declared.command.Command.TheVariants as commands
@@ -125,3 +126,28 @@ controlled_stopped =
     ∷ line 11 0 2000000000 (Release 0 2)
     ∷ line 12 0 2000000000 (Close 0)
     ∷ []
+
+-- ---- samples: `constant-vus`, two users, a script of six samples, in a journal of ten entries and ten
+-- samples; the test has a name with one check, and a counter
+
+abbrev pub sampling_plan : Plan
+sampling_plan =
+    record {
+      parts = record { begin = 0; end = 1000000000; grace = 0; sample_room = 6; whole_items = 0; executor = ConstantVus (0 ∷ 1 ∷ []) } ∷ [];
+      planned = 2;
+      limit = 2;
+      entry_limit = 10;
+      names = record { counter = false; checks = 1 } ∷ record { counter = true; checks = 0 } ∷ [];
+    }
+
+-- the first of two users has started
+abbrev pub sampling_lines : List Entry
+sampling_lines = line 1 0 0 (Take 0 1 0) ∷ line 2 0 0 (Take 0 2 1) ∷ line 3 0 0 (Start 0 1 0 1000000000) ∷ []
+
+-- a tally of one sample of a name, with a status and check bits
+abbrev pub one_sample : ℕ → ℕ → ℕ → TallyView
+one_sample of_name with_status with_bits =
+    record {
+      samples = record { name = of_name; status = with_status; span = 0; sent = 7; received = 0; failed = false; check_bits = with_bits } ∷ [];
+      room = 6;
+    }

@@ -1,19 +1,21 @@
 // Further worked examples: the other executors, two scenarios, a full journal and control.
 ghost use Rattle.std.specs.Prelude.{◌≡◌, ◌∷◌, [], Some, take, true, false};
+ghost use Rattle.ld_base.specs.Stint.{stint_of};
 ghost use Rattle.ld_base.specs.declared.act.Act.TheVariants.{Take, Start};
 ghost use Rattle.ld_base.specs.declared.ask.Ask.TheVariants as asks;
 ghost use Rattle.ld_base.specs.declared.command.Command.TheVariants.{Pause, Stop, Vus, VusMax};
 ghost use Rattle.ld_base.specs.declared.reply.Reply.TheVariants.{Noted, Denied, Go, Halt, Alive, Wait, Over, Full};
-ghost use Rattle.ld_base.specs.declared.reply.Room.TheVariants.{Entries};
+ghost use Rattle.ld_base.specs.declared.reply.Room.TheVariants.{Entries, Samples};
 ghost use Rattle.ld_machine.specs.State.{opening};
 ghost use Rattle.ld_machine.specs.Effect.{state_after};
 ghost use Rattle.ld_machine.specs.Step.{replies};
+ghost use Rattle.ld_machine.specs.Samples.{tally_fits};
 ghost use Rattle.ld_machine.specs.History.{IsLegal, first_illegal};
 ghost use Rattle.ld_machine.specs.Settled.{IsSettled, unsettled};
 ghost use Rattle.ld_machine.specs.Drops.{DropsAllowed};
 ghost use Rattle.ld_machine.specs.Rehearsal.{IsRehearsed};
 ghost use Rattle.ld_machine.specs.Examples.{line, with_line, moved_up, arrival_plan};
-ghost use Rattle.ld_machine.specs.FurtherExamples.{ramping_plan, ramping_done, two_plan, two_done, arrivals_late, full_plan, full_lines, controlled_plan, controlled_stopped};
+ghost use Rattle.ld_machine.specs.FurtherExamples.{ramping_plan, ramping_done, two_plan, two_done, arrivals_late, full_plan, full_lines, controlled_plan, controlled_stopped, sampling_plan, sampling_lines, one_sample};
 
 /// Two users ramp up and down.
 pub fn ramping_users()
@@ -62,4 +64,19 @@ pub fn controlled_users()
     ensures stands { replies controlled_plan (state_after controlled_plan (take 7 controlled_stopped)) 1 asks.Look 2000000000 ≡ Alive false true 2 3 ∷ [] }
     ensures over { replies controlled_plan (state_after controlled_plan controlled_stopped) 1 asks.Act 2000000000 ≡ Over ∷ [] }
     ensures short_wait { replies controlled_plan (state_after controlled_plan (take 2 controlled_stopped)) 0 asks.Act 5 ≡ Wait 20000005 ∷ [] }
+{}
+
+/// A second iteration has no room for its samples, and a Return is of the thread that started the
+/// iteration, with a tally that fits.
+pub fn samples()
+    ensures legal { IsLegal sampling_plan sampling_lines }
+    ensures refused { replies sampling_plan (state_after sampling_plan sampling_lines) 0 asks.Act 0 ≡ Full Samples 12 10 ∷ [] }
+    ensures noted { replies sampling_plan (state_after sampling_plan sampling_lines) 0 (asks.Return (stint_of 0 1 0 1000000000) true (one_sample 0 200 1)) 5 ≡ Noted ∷ [] }
+    ensures other_thread { replies sampling_plan (state_after sampling_plan sampling_lines) 1 (asks.Return (stint_of 0 1 0 1000000000) true (one_sample 0 200 1)) 5 ≡ [] }
+    ensures other_until { replies sampling_plan (state_after sampling_plan sampling_lines) 0 (asks.Return (stint_of 0 1 0 999999999) true (one_sample 0 200 1)) 5 ≡ [] }
+    ensures no_such_check { tally_fits sampling_plan.names 6 (one_sample 0 200 2) ≡ false }
+    ensures no_such_name { tally_fits sampling_plan.names 6 (one_sample 2 200 1) ≡ false }
+    ensures counter { tally_fits sampling_plan.names 6 (one_sample 1 0 0) ≡ true }
+    ensures counter_status { tally_fits sampling_plan.names 6 (one_sample 1 200 0) ≡ false }
+    ensures too_many { tally_fits sampling_plan.names 0 (one_sample 0 200 1) ≡ false }
 {}

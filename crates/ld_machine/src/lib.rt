@@ -15,7 +15,7 @@ pub use examples::{
     iteration_interrupted, rehearsals, shared_iterations,
 };
 pub use further_examples::{
-    controlled_users, full_journal, late_arrivals, ramping_users, two_scenarios,
+    controlled_users, full_journal, late_arrivals, ramping_users, samples, two_scenarios,
 };
 pub use laws::{
     always_answered, behind_a_stop, dropped_and_late, first_acts, fitting_tallies, fronts,
