@@ -10,3 +10,4 @@ pub mod WaitLemmas
 pub mod FrontLemmas
 pub mod ItemLemmas
 pub mod HolderLemmas
+pub mod ResultLemmas

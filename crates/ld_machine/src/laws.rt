@@ -1,6 +1,7 @@
 // The laws of the machine, over all plans, states and histories.
 ghost use Rattle.std.specs.Prelude.{◌≡◌, ◌++◌, ◌⊎◌, ◌↔◌, ◌<◌, ◌≤◌, ℕ, List, [], Contains, IsTrue, length, Some, slice_get};
 ghost use Rattle.ld_base.specs.Tally.{TallyView, TallyFits};
+ghost use Rattle.ld_base.specs.declared.ask.Ask.{Ask};
 ghost use Rattle.ld_base.specs.declared.ask.Ask.TheVariants as asks;
 ghost use Rattle.ld_base.specs.declared.reply.Reply.TheVariants.{Wait};
 ghost use Rattle.ld_base.specs.declared.entry.Entry.{Entry};
@@ -8,12 +9,12 @@ ghost use Rattle.ld_base.specs.declared.metric.NameSpec.{NameSpec};
 ghost use Rattle.ld_machine.specs.Plan.{Part, Plan};
 ghost use Rattle.ld_machine.specs.Settled.{has_items, is_distinct, items_in};
 ghost use Rattle.ld_machine.specs.State.{State, times_held};
-ghost use Rattle.ld_machine.specs.Effect.{state_after};
+ghost use Rattle.ld_machine.specs.Effect.{after_entries, state_after};
 ghost use Rattle.ld_machine.specs.Moves.{Move, enabled};
 ghost use Rattle.ld_machine.specs.Order.{place_of, first_moves};
 ghost use Rattle.ld_machine.specs.Samples.{tally_fits};
 ghost use Rattle.ld_machine.specs.Same.{same_entries};
-ghost use Rattle.ld_machine.specs.Step.{results, replies};
+ghost use Rattle.ld_machine.specs.Step.{IsStep, Result, results, replies};
 ghost use Rattle.ld_machine.specs.Rehearsal.{NothingEnabled};
 ghost use Rattle.ld_machine.specs.History.{IsLegal, EndsInside};
 ghost use Rattle.ld_machine.specs.Stops.{WindsDown};
@@ -77,3 +78,12 @@ pub fn items_once()
 pub fn held_once()
     ensures { (plan : Plan) (history : List Entry) (user : ℕ) → IsLegal plan history → times_held user (state_after plan history).shares ≤ 1 }
 {}
+
+/// A step leaves the state that its entries lead to.
+pub fn steps_leave()
+    ensures {
+        (plan : Plan) (state : State) (thread : ℕ) (ask : Ask) (t : ℕ) (result_of : Result) →
+            IsStep plan state thread ask t result_of → result_of.state ≡ after_entries plan state result_of.entries
+    }
+{
+}

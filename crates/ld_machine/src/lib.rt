@@ -19,5 +19,5 @@ pub use further_examples::{
 };
 pub use laws::{
     always_answered, behind_a_stop, dropped_and_late, first_acts, fitting_tallies, fronts,
-    held_once, items_once, same_history, waits,
+    held_once, items_once, same_history, steps_leave, waits,
 };
