@@ -1,5 +1,5 @@
 -- Elements of lists, and what tests, filters and maps make of them.
-use Rattle.std.proofs.Common.{◌≡◌, ◌<◌, ◌+◌, ℕ, suc, zero, Bool, true, false, cond, ◌&&◌, ◌||◌, List, [], ◌∷◌, ◌++◌, ◌⊎◌, inl, inr, get_or, length, map, arith, refl, sym, subst, filter, flat_map, filter_map, Option, Some, None, slice_get}
+use Rattle.std.proofs.Common.{Contains, ◌≡◌, ◌<◌, ◌+◌, ℕ, suc, zero, Bool, true, false, cond, ◌&&◌, ◌||◌, List, [], ◌∷◌, ◌++◌, ◌⊎◌, inl, inr, get_or, length, map, arith, refl, sym, subst, filter, flat_map, filter_map, Option, Some, None, slice_get}
 use Rattle.std.specs.List.{list_any, list_all, enumerate_from, cons_option}
 use Rattle.std.proofs.lemmas.Grind.{common_steps}
 
@@ -118,3 +118,11 @@ In-enumerate k p (y ∷ ys) (there more) =
 pub all_at : {A : Type 0} (p : A → Bool) (x : A) {xs : List A} → In x xs → list_all p xs ≡ true → p x ≡ true
 all_at p x (here {xs = xs}) h = (both_true (p x) (list_all p xs) h).0
 all_at p x (there {y = y} {xs = xs} more) h = all_at p x more (both_true (p y) (list_all p xs) h).1
+
+-- an element is one by its place
+pub Contains-from_In : {A : Type 0} (x : A) {xs : List A} → In x xs → Contains xs x
+Contains-from_In x (here {xs = xs}) = (0, omega arith, refl)
+Contains-from_In x (there {y = y} {xs = xs} more) =
+  let later = Contains-from_In x more in
+  let below : later.0 < length xs = later.1 in
+  (suc later.0, omega arith, later.2)

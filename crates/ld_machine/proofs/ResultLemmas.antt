@@ -1,6 +1,8 @@
 -- What a step leaves is the state behind its entries.
 use Rattle.std.proofs.Common.{◌≡◌, ℕ, Bool, true, false, cond, ◌&&◌, List, [], ◌∷◌, Option, None, Some, map, refl, sym, subst, slice_get}
+use Rattle.std.specs.List.{list_any}
 use Rattle.std.specs.Option.{option_map_or}
+use Rattle.ld_base.specs.declared.entry.Entry.{Entry}
 use Rattle.ld_base.specs.declared.act.Act.{Act}
 use Rattle.ld_base.specs.declared.act.Act.TheVariants.{Control}
 use Rattle.ld_base.specs.declared.ask.Ask.{Ask}
@@ -18,8 +20,11 @@ use Rattle.ld_machine.specs.Wait.{wait_moment}
 use Rattle.ld_machine.specs.Commands.{is_denied}
 use Rattle.ld_machine.specs.Effect.{after_entries}
 use Rattle.ld_machine.specs.Samples.{tally_fits}
-use Rattle.ld_machine.specs.Step.{Result, answered, performed, move_result, open_results, act_results, is_out, outcome_of, return_of, return_results, check_reply, check_results, look_reply, control_result, results}
-use Rattle.ld_machine.proofs.ListLemmas.{In, nothing_in, In-map}
+use Rattle.ld_machine.specs.Same.{same_entries}
+use Rattle.ld_machine.specs.History.{ask_for, results_for}
+use Rattle.ld_machine.specs.Step.{Result, answered, performed, move_result, open_results, act_results, is_out, outcome_of, return_of, return_results, check_reply, check_results, look_reply, control_result, results, IsStep}
+use Rattle.ld_machine.proofs.ListLemmas.{In, nothing_in, In-map, In-from_any, any-from_In, In-from_Contains, Contains-from_In}
+use Rattle.ld_machine.proofs.SameLemmas.{itself_entries, same_entries_tells}
 use Rattle.ld_machine.proofs.SourceLemmas.{In-one}
 
 -- the result's state is that behind its entries
@@ -69,3 +74,17 @@ results_leave plan state thread (asks.Control command) t r h =
     true ↦ refl
   | false ↦ room_leaves plan state thread t Noted (Control command ∷ []) (entries_refusal plan state 1 0)
   ] in one_leaves plan state r (control_result plan state thread t command) h leaves
+
+-- entries pass the test exactly where some step from the state adds them
+pub adds_tells : (plan : Plan) (state : State) (one : Entry) (entries : List Entry) → list_any (λ (r : Result). same_entries r.entries entries) (results_for plan state one) ≡ true →
+  (r : Result) × IsStep plan state one.thread (ask_for state one.act) one.reading r × (r.entries ≡ entries)
+adds_tells plan state one entries h =
+  let found = In-from_any (λ (r : Result). same_entries r.entries entries) (results_for plan state one) h in
+  (found.0, Contains-from_In found.0 found.1, same_entries_tells found.0.entries entries found.2)
+
+pub adds_passes : (plan : Plan) (state : State) (one : Entry) (entries : List Entry) →
+  (r : Result) × IsStep plan state one.thread (ask_for state one.act) one.reading r × (r.entries ≡ entries) →
+  list_any (λ (r : Result). same_entries r.entries entries) (results_for plan state one) ≡ true
+adds_passes plan state one entries h =
+  any-from_In (λ (r : Result). same_entries r.entries entries) h.0 (In-from_Contains h.0 (results_for plan state one) h.1.0 h.1.1 h.1.2)
+    (subst (λ es. same_entries h.0.entries es ≡ true) h.2 (itself_entries h.0.entries))

@@ -1,5 +1,5 @@
 // The laws of the machine, over all plans, states and histories.
-ghost use Rattle.std.specs.Prelude.{◌≡◌, ◌++◌, ◌⊎◌, ◌↔◌, ◌<◌, ◌≤◌, ℕ, List, [], Contains, IsTrue, length, Some, slice_get};
+ghost use Rattle.std.specs.Prelude.{◌≡◌, ◌∷◌, ◌++◌, ◌⊎◌, ◌↔◌, ◌<◌, ◌≤◌, ℕ, List, [], Contains, IsTrue, length, Some, slice_get};
 ghost use Rattle.ld_base.specs.Tally.{TallyView, TallyFits};
 ghost use Rattle.ld_base.specs.declared.ask.Ask.{Ask};
 ghost use Rattle.ld_base.specs.declared.ask.Ask.TheVariants as asks;
@@ -16,7 +16,7 @@ ghost use Rattle.ld_machine.specs.Samples.{tally_fits};
 ghost use Rattle.ld_machine.specs.Same.{same_entries};
 ghost use Rattle.ld_machine.specs.Step.{IsStep, Result, results, replies};
 ghost use Rattle.ld_machine.specs.Rehearsal.{NothingEnabled};
-ghost use Rattle.ld_machine.specs.History.{IsLegal, EndsInside};
+ghost use Rattle.ld_machine.specs.History.{ask_for, adds_one, adds_two, IsLegal, EndsInside};
 ghost use Rattle.ld_machine.specs.Stops.{WindsDown};
 ghost use Rattle.ld_machine.specs.Drops.{DropsAllowed};
 
@@ -84,6 +84,22 @@ pub fn steps_leave()
     ensures {
         (plan : Plan) (state : State) (thread : ℕ) (ask : Ask) (t : ℕ) (result_of : Result) →
             IsStep plan state thread ask t result_of → result_of.state ≡ after_entries plan state result_of.entries
+    }
+{
+}
+
+/// A legal history's tests ask for steps: one entry, or two, pass exactly where some step from the
+/// state adds just these.
+pub fn added_by_steps()
+    ensures one {
+        (plan : Plan) (state : State) (one : Entry) →
+            IsTrue (adds_one plan state one)
+                ↔ ((r : Result) × IsStep plan state one.thread (ask_for state one.act) one.reading r × (r.entries ≡ one ∷ []))
+    }
+    ensures two {
+        (plan : Plan) (state : State) (one two : Entry) →
+            IsTrue (adds_two plan state one two)
+                ↔ ((r : Result) × IsStep plan state one.thread (ask_for state one.act) one.reading r × (r.entries ≡ one ∷ two ∷ []))
     }
 {
 }
