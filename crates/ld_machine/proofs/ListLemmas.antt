@@ -123,6 +123,6 @@ all_at p x (there {y = y} {xs = xs} more) h = all_at p x more (both_true (p y) (
 pub Contains-from_In : {A : Type 0} (x : A) {xs : List A} → In x xs → Contains xs x
 Contains-from_In x (here {xs = xs}) = (0, omega arith, refl)
 Contains-from_In x (there {y = y} {xs = xs} more) =
-  let later = Contains-from_In x more in
-  let below : later.0 < length xs = later.1 in
-  (suc later.0, omega arith, later.2)
+    let later = Contains-from_In x more in
+    let below : later.0 < length xs = later.1 in
+    (suc later.0, omega arith, later.2)

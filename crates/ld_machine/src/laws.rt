@@ -81,25 +81,17 @@ pub fn held_once()
 
 /// A step leaves the state that its entries lead to.
 pub fn steps_leave()
-    ensures {
-        (plan : Plan) (state : State) (thread : ℕ) (ask : Ask) (t : ℕ) (result_of : Result) →
-            IsStep plan state thread ask t result_of → result_of.state ≡ after_entries plan state result_of.entries
-    }
-{
-}
+    ensures { (plan : Plan) (state : State) (thread : ℕ) (ask : Ask) (t : ℕ) (result_of : Result) →
+        IsStep plan state thread ask t result_of → result_of.state ≡ after_entries plan state result_of.entries }
+{}
 
 /// A legal history's tests ask for steps: one entry, or two, pass exactly where some step from the
 /// state adds just these.
 pub fn added_by_steps()
-    ensures one {
-        (plan : Plan) (state : State) (one : Entry) →
-            IsTrue (adds_one plan state one)
-                ↔ ((r : Result) × IsStep plan state one.thread (ask_for state one.act) one.reading r × (r.entries ≡ one ∷ []))
-    }
-    ensures two {
-        (plan : Plan) (state : State) (one two : Entry) →
-            IsTrue (adds_two plan state one two)
-                ↔ ((r : Result) × IsStep plan state one.thread (ask_for state one.act) one.reading r × (r.entries ≡ one ∷ two ∷ []))
-    }
-{
-}
+    ensures one { (plan : Plan) (state : State) (one : Entry) →
+        IsTrue (adds_one plan state one)
+        ↔ ((r : Result) × IsStep plan state one.thread (ask_for state one.act) one.reading r × (r.entries ≡ one ∷ [])) }
+    ensures two { (plan : Plan) (state : State) (one two : Entry) →
+        IsTrue (adds_two plan state one two)
+        ↔ ((r : Result) × IsStep plan state one.thread (ask_for state one.act) one.reading r × (r.entries ≡ one ∷ two ∷ [])) }
+{}

@@ -18,6 +18,6 @@ pub use further_examples::{
     controlled_users, full_journal, late_arrivals, ramping_users, samples, two_scenarios,
 };
 pub use laws::{
-    added_by_steps, always_answered, behind_a_stop, dropped_and_late, first_acts, fitting_tallies, fronts,
-    held_once, items_once, same_history, steps_leave, waits,
+    added_by_steps, always_answered, behind_a_stop, dropped_and_late, first_acts, fitting_tallies,
+    fronts, held_once, items_once, same_history, steps_leave, waits,
 };
