@@ -1,0 +1,13 @@
+pub mod ListLemmas
+pub mod OrderLemmas
+pub mod SameLemmas
+pub mod SamplesLemmas
+pub mod StepLemmas
+pub mod StopLemmas
+pub mod SourceLemmas
+pub mod DropLemmas
+pub mod WaitLemmas
+pub mod FrontLemmas
+pub mod ItemLemmas
+pub mod HolderLemmas
+pub mod ResultLemmas

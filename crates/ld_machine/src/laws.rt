@@ -1,0 +1,97 @@
+// The laws of the machine, over all plans, states and histories.
+ghost use Rattle.std.specs.Prelude.{◌≡◌, ◌∷◌, ◌++◌, ◌⊎◌, ◌↔◌, ◌<◌, ◌≤◌, ℕ, List, [], Contains, IsTrue, length, Some, slice_get};
+ghost use Rattle.ld_base.specs.Tally.{TallyView, TallyFits};
+ghost use Rattle.ld_base.specs.declared.ask.Ask.{Ask};
+ghost use Rattle.ld_base.specs.declared.ask.Ask.TheVariants as asks;
+ghost use Rattle.ld_base.specs.declared.reply.Reply.TheVariants.{Wait};
+ghost use Rattle.ld_base.specs.declared.entry.Entry.{Entry};
+ghost use Rattle.ld_base.specs.declared.metric.NameSpec.{NameSpec};
+ghost use Rattle.ld_machine.specs.Plan.{Part, Plan};
+ghost use Rattle.ld_machine.specs.Settled.{has_items, is_distinct, items_in};
+ghost use Rattle.ld_machine.specs.State.{State, times_held};
+ghost use Rattle.ld_machine.specs.Effect.{after_entries, state_after};
+ghost use Rattle.ld_machine.specs.Moves.{Move, enabled};
+ghost use Rattle.ld_machine.specs.Order.{place_of, first_moves};
+ghost use Rattle.ld_machine.specs.Samples.{tally_fits};
+ghost use Rattle.ld_machine.specs.Same.{same_entries};
+ghost use Rattle.ld_machine.specs.Step.{IsStep, Result, results, replies};
+ghost use Rattle.ld_machine.specs.Rehearsal.{NothingEnabled};
+ghost use Rattle.ld_machine.specs.History.{ask_for, adds_one, adds_two, IsLegal, EndsInside};
+ghost use Rattle.ld_machine.specs.Stops.{WindsDown};
+ghost use Rattle.ld_machine.specs.Drops.{DropsAllowed};
+
+/// A tally passes the test exactly where it fits.
+pub fn fitting_tallies()
+    ensures { (names : List NameSpec) (room : ℕ) (tally : TallyView) → IsTrue (tally_fits names room tally) ↔ TallyFits names room tally }
+{}
+
+/// Entries pass the test exactly where they are the same.
+pub fn same_history()
+    ensures { (a b : List Entry) → IsTrue (same_entries a b) ↔ (a ≡ b) }
+{}
+
+/// An ask for an act always has a reply.
+pub fn always_answered()
+    ensures { (plan : Plan) (state : State) (thread t : ℕ) → 0 < length (results plan state thread asks.Act t) }
+{}
+
+/// Where some act is enabled there is a first one; and the first ones have one place in the order,
+/// so they differ only in the user and in what goes with it.
+pub fn first_acts()
+    ensures exist { (plan : Plan) (state : State) (t : ℕ) → first_moves plan state t ≡ [] → enabled plan state t ≡ [] }
+    ensures one_place { (plan : Plan) (state : State) (t : ℕ) (a b : Move) →
+        Contains (first_moves plan state t) a → Contains (first_moves plan state t) b → place_of a ≡ place_of b }
+{}
+
+/// Behind a commanded stop nothing is taken, grown, started, dropped or counted late, and no second
+/// stop is commanded.
+pub fn behind_a_stop()
+    ensures { (plan : Plan) (history : List Entry) → IsLegal plan history → WindsDown history }
+{}
+
+/// In a legal history an arrival is dropped only when it is due, before the end, and where nobody
+/// could play it; an iteration is dropped, and an arrival counted late, only at the end or behind it.
+pub fn dropped_and_late()
+    ensures { (plan : Plan) (history : List Entry) → plan.planned ≤ plan.limit → IsLegal plan history → DropsAllowed plan history }
+{}
+
+/// Where an ask for an act is answered by a wait for a moment, no act is enabled at any moment from
+/// the reading up to and without that one.
+pub fn waits()
+    ensures { (plan : Plan) (state : State) (thread t m : ℕ) →
+        Contains (replies plan state thread asks.Act t) (Wait m) → NothingEnabled plan state t m }
+{}
+
+/// A front of a legal history is legal, unless it ends between the two entries of one step.
+pub fn fronts()
+    ensures { (plan : Plan) (front rest : List Entry) → IsLegal plan (front ++ rest) → IsLegal plan front ⊎ EndsInside plan front }
+{}
+
+/// No item of a scenario is started, dropped or counted late twice.
+pub fn items_once()
+    ensures { (plan : Plan) (history : List Entry) (n : ℕ) (part : Part) → IsLegal plan history → slice_get plan.parts n ≡ Some part →
+        IsTrue (has_items part.executor) → IsTrue (is_distinct (items_in n history)) }
+{}
+
+/// Behind a legal history no user is held twice, by one scenario or by two; so it is busy with one
+/// iteration at most.
+pub fn held_once()
+    ensures { (plan : Plan) (history : List Entry) (user : ℕ) → IsLegal plan history → times_held user (state_after plan history).shares ≤ 1 }
+{}
+
+/// A step leaves the state that its entries lead to.
+pub fn steps_leave()
+    ensures { (plan : Plan) (state : State) (thread : ℕ) (ask : Ask) (t : ℕ) (result_of : Result) →
+        IsStep plan state thread ask t result_of → result_of.state ≡ after_entries plan state result_of.entries }
+{}
+
+/// A legal history's tests ask for steps: one entry, or two, pass exactly where some step from the
+/// state adds just these.
+pub fn added_by_steps()
+    ensures one { (plan : Plan) (state : State) (one : Entry) →
+        IsTrue (adds_one plan state one)
+        ↔ ((r : Result) × IsStep plan state one.thread (ask_for state one.act) one.reading r × (r.entries ≡ one ∷ [])) }
+    ensures two { (plan : Plan) (state : State) (one two : Entry) →
+        IsTrue (adds_two plan state one two)
+        ↔ ((r : Result) × IsStep plan state one.thread (ask_for state one.act) one.reading r × (r.entries ≡ one ∷ two ∷ [])) }
+{}
