@@ -10,4 +10,5 @@ pub mod WaitLemmas
 pub mod FrontLemmas
 pub mod ItemLemmas
 pub mod HolderLemmas
+pub mod TurnLemmas
 pub mod ResultLemmas

@@ -21,3 +21,4 @@ pub mod Rehearsal
 pub mod Examples
 pub mod FurtherExamples
 pub mod Stops
+pub mod Turns

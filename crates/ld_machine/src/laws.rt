@@ -19,6 +19,7 @@ ghost use Rattle.ld_machine.specs.Rehearsal.{NothingEnabled};
 ghost use Rattle.ld_machine.specs.History.{ask_for, adds_one, adds_two, IsLegal, EndsInside};
 ghost use Rattle.ld_machine.specs.Stops.{WindsDown};
 ghost use Rattle.ld_machine.specs.Drops.{DropsAllowed};
+ghost use Rattle.ld_machine.specs.Turns.{StartsAlternate};
 
 /// A tally passes the test exactly where it fits.
 pub fn fitting_tallies()
@@ -77,6 +78,12 @@ pub fn items_once()
 /// iteration at most.
 pub fn held_once()
     ensures { (plan : Plan) (history : List Entry) (user : ℕ) → IsLegal plan history → times_held user (state_after plan history).shares ≤ 1 }
+{}
+
+/// In a legal history no user plays two iterations at once: behind each Start the next Start or Return
+/// of its user, if there is one, is the Return of this very iteration.
+pub fn starts_alternate()
+    ensures { (plan : Plan) (history : List Entry) → IsLegal plan history → StartsAlternate history }
 {}
 
 /// A step leaves the state that its entries lead to.
