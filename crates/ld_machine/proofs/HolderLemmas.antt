@@ -115,7 +115,7 @@ times_after plan state at thread t (Control (commands.VusMax v)) user = omega ar
 
 -- ---- who is taken or grown
 
-or_parts : (a b : Bool) → (a || b) ≡ false → (a ≡ false) × (b ≡ false)
+pub or_parts : (a b : Bool) → (a || b) ≡ false → (a ≡ false) × (b ≡ false)
 or_parts false b h = (refl, h)
 or_parts true b h = absurd (cc)
 
@@ -179,7 +179,7 @@ grow_gains state k user slot holds next one h =
     let same : user ≡ one = cc in
     subst (λ u. (times_held u state.shares ≡ 0) × (u ≤ state.made + 1)) same (holds.unmade user (omega arith), omega arith)
 
-in_two : (x a b : Act) → In x (a ∷ b ∷ []) → (a ≡ x) ⊎ (b ≡ x)
+pub in_two : (x a b : Act) → In x (a ∷ b ∷ []) → (a ≡ x) ⊎ (b ≡ x)
 in_two x a b here = inl refl
 in_two x a b (there more) = inr (In-one x b more)
 

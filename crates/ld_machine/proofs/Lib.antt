@@ -11,4 +11,5 @@ pub mod FrontLemmas
 pub mod ItemLemmas
 pub mod HolderLemmas
 pub mod TurnLemmas
+pub mod SlotLemmas
 pub mod ResultLemmas

@@ -285,7 +285,7 @@ move_finds plan state k s t move stands (by_arrival a (GrowAndStart user slot) d
 move_finds plan state k s t move stands (by_arrival a (TakeAndStart user slot) due e) act same = absurd (cc)
 
 -- the acts that entries have are those of the move that wrote them
-acts_written : (plan : Plan) (state : State) (thread t : ℕ) (entries : List Entry) (w : Wrote plan state thread t entries) →
+pub acts_written : (plan : Plan) (state : State) (thread t : ℕ) (entries : List Entry) (w : Wrote plan state thread t entries) →
     acts_of w.move ≡ map (λ (e : Entry). e.act) entries
 acts_written plan state thread t entries w =
     sym (acts_back (state.entries + 1) thread t (acts_of w.move)) ∙ ap (λ es. map (λ (e : Entry). e.act) es) w.wrote
@@ -400,7 +400,7 @@ move_pair plan state k s t move stands (by_start u item idle e) one two same = a
 move_pair plan state k s t move stands (by_drop item e) one two same = absurd (cc)
 move_pair plan state k s t move stands (by_close e) one two same = absurd (cc)
 
-pair_of : (plan : Plan) (state : State) (one two : Entry) → adds_two plan state one two ≡ true → Pair state one.act two.act
+pub pair_of : (plan : Plan) (state : State) (one two : Entry) → adds_two plan state one two ≡ true → Pair state one.act two.act
 pair_of plan state one two h =
     let w = pair_wrote plan state one two h in
     let where_it = first_enabled plan state one.reading w.move w.first in

@@ -22,3 +22,4 @@ pub mod Examples
 pub mod FurtherExamples
 pub mod Stops
 pub mod Turns
+pub mod Slots
