@@ -22,12 +22,12 @@ use Rattle.ld_machine.proofs.StepLemmas.{Wrote, first_enabled, one_wrote, pair_w
 use Rattle.ld_machine.proofs.DropLemmas.{acts_back, made_after, grows, second_starts}
 
 -- 1 where a user is the one meant
-abbrev hit : ℕ → ℕ → ℕ
+abbrev pub hit : ℕ → ℕ → ℕ
 hit one user = if one == user then 1 else 0
 
 -- ---- what changes of shares do
 
-times-with_user : (user : ℕ) (h : HeldUser) (held : List HeldUser) → times_among user (with_user h held) ≡ hit h.user user + times_among user held
+pub times-with_user : (user : ℕ) (h : HeldUser) (held : List HeldUser) → times_among user (with_user h held) ≡ hit h.user user + times_among user held
 times-with_user user h [] = refl
 times-with_user user h (g ∷ rest) =
     let P : Bool → Type 0 = λ b. times_among user (cond b (h ∷ g ∷ rest) (g ∷ with_user h rest)) ≡ hit h.user user + (hit g.user user + times_among user rest) in
@@ -85,7 +85,7 @@ gained (Take _ user _) = Some user
 gained (Grow _ user _) = Some user
 gained _ = None
 
-abbrev gained_hit : Option ℕ → ℕ → ℕ
+abbrev pub gained_hit : Option ℕ → ℕ → ℕ
 gained_hit None user = 0
 gained_hit (Some one) user = hit one user
 
@@ -115,7 +115,7 @@ times_after plan state at thread t (Control (commands.VusMax v)) user = omega ar
 
 -- ---- who is taken or grown
 
-or_parts : (a b : Bool) → (a || b) ≡ false → (a ≡ false) × (b ≡ false)
+pub or_parts : (a b : Bool) → (a || b) ≡ false → (a ≡ false) × (b ≡ false)
 or_parts false b h = (refl, h)
 or_parts true b h = absurd (cc)
 
@@ -156,7 +156,7 @@ pub record Holds (state : State) : Type 0 where
   pub unmade : (user : ℕ) → state.made < user → times_held user state.shares ≡ 0
 
 -- what an act gains: a user that nobody holds, and that is made by then
-abbrev Gains : State → Act → Type 0
+abbrev pub Gains : State → Act → Type 0
 Gains state act = (one : ℕ) → gained act ≡ Some one → (times_held one state.shares ≡ 0) × (one ≤ state.made + grows act)
 
 nothing_gained : (state : State) (act : Act) → gained act ≡ None → Gains state act
@@ -179,7 +179,7 @@ grow_gains state k user slot holds next one h =
     let same : user ≡ one = cc in
     subst (λ u. (times_held u state.shares ≡ 0) × (u ≤ state.made + 1)) same (holds.unmade user (omega arith), omega arith)
 
-in_two : (x a b : Act) → In x (a ∷ b ∷ []) → (a ≡ x) ⊎ (b ≡ x)
+pub in_two : (x a b : Act) → In x (a ∷ b ∷ []) → (a ≡ x) ⊎ (b ≡ x)
 in_two x a b here = inl refl
 in_two x a b (there more) = inr (In-one x b more)
 
@@ -206,7 +206,7 @@ move_gains plan state k s t move holds (by_arrival a (TakeAndStart user slot) du
       | inr started ↦ gains_by state _ act started (nothing_gained state (Start k user a.item (hard_moment s.part)) refl)
     ]
 
-wrote_gains : (plan : Plan) (state : State) (thread t : ℕ) (entries : List Entry) → Holds state → Wrote plan state thread t entries →
+pub wrote_gains : (plan : Plan) (state : State) (thread t : ℕ) (entries : List Entry) → Holds state → Wrote plan state thread t entries →
     (act : Act) → In act (map (λ (e : Entry). e.act) entries) → Gains state act
 wrote_gains plan state thread t entries holds w act at =
     let where_it = first_enabled plan state t w.move w.first in
@@ -237,7 +237,7 @@ gain_unmade : (state : State) (user made : ℕ) (o : Option ℕ) → ((one : ℕ
 gain_unmade state user made None gains h = refl
 gain_unmade state user made (Some one) gains h = let below = gains one refl in hit_apart one user (omega arith)
 
-entry_holds : (plan : Plan) (state : State) (one : Entry) → Holds state → Gains state one.act → Holds (after_entry plan state one)
+pub entry_holds : (plan : Plan) (state : State) (one : Entry) → Holds state → Gains state one.act → Holds (after_entry plan state one)
 entry_holds plan state one holds gains = record {
   once = λ user.
       let bound = times_after plan state one.turn one.thread one.reading one.act user in
@@ -251,7 +251,7 @@ entry_holds plan state one holds gains = record {
       omega arith;
 }
 
-one_gains : (plan : Plan) (state : State) (one : Entry) → Holds state → adds_one plan state one ≡ true → Gains state one.act
+pub one_gains : (plan : Plan) (state : State) (one : Entry) → Holds state → adds_one plan state one ≡ true → Gains state one.act
 one_gains plan state one holds h =
     let P : Bool → Type 0 = λ b. is_asked_act one.act ≡ b → Gains state one.act in
     let gains : P (is_asked_act one.act) = elim (is_asked_act one.act) as P [
@@ -268,7 +268,7 @@ start_gains : (act : Act) → is_start act ≡ true → gained act ≡ None
 start_gains (Start n user item until) h = refl
 start_gains _ h = absurd (cc)
 
-two_hold : (plan : Plan) (state : State) (one two : Entry) → Holds state → adds_two plan state one two ≡ true → Holds (after_entry plan (after_entry plan state one) two)
+pub two_hold : (plan : Plan) (state : State) (one two : Entry) → Holds state → adds_two plan state one two ≡ true → Holds (after_entry plan (after_entry plan state one) two)
 two_hold plan state one two holds h =
     let w = pair_wrote plan state one two h in
     let first = entry_holds plan state one holds (wrote_gains plan state one.thread one.reading (one ∷ two ∷ []) holds w one.act here) in

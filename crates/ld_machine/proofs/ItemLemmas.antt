@@ -174,7 +174,7 @@ ended_in (share ∷ rest) zero = share.ended
 ended_in (share ∷ rest) (suc n) = ended_in rest n
 
 -- a scenario that stands has the share and the part of its number
-stands_share : (controls : Controls) (parts : List Part) (shares : List Share) (n : ℕ) (s : Scenario) →
+pub stands_share : (controls : Controls) (parts : List Part) (shares : List Share) (n : ℕ) (s : Scenario) →
     slice_get (scenarios_with controls parts shares) n ≡ Some s → (slice_get parts n ≡ Some s.part) × (slice_get shares n ≡ Some s.share) × (ended_in shares n ≡ s.share.ended)
 stands_share controls [] shares n s h = absurd (cc)
 stands_share controls (part ∷ parts) [] n s h = absurd (cc)

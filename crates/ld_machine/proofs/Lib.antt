@@ -10,4 +10,6 @@ pub mod WaitLemmas
 pub mod FrontLemmas
 pub mod ItemLemmas
 pub mod HolderLemmas
+pub mod TurnLemmas
+pub mod SlotLemmas
 pub mod ResultLemmas

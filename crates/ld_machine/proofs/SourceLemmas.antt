@@ -179,3 +179,22 @@ module _ (users : Users) (n : ℕ) (s : Scenario) (t : ℕ) where
       ]
     ]
   ]
+
+  -- an arrival starts on an idle user
+  pub on_answer : (user : ℕ) → In (StartOn user) (answers s users t) → (h : HeldUser) × In h (idle_users s.share) × (h.user ≡ user)
+  on_answer user h = elim (In-cond (has_ended s t) (StartOn user) (CountLate ∷ []) _ h) [
+    | inl at ↦ let same = In-one (StartOn user) CountLate at.1 in absurd (cc)
+    | inr at ↦ elim (In-cond (is_some (first_of (idle_users s.share))) (StartOn user) (map (λ (u : HeldUser). StartOn u.user) (idle_users s.share)) _ at.1) [
+      | inl on ↦
+          let found = In-map (λ (u : HeldUser). StartOn u.user) (StartOn user) (idle_users s.share) on.1 in
+          let same : found.0.user ≡ user = cc in
+          (found.0, found.1, same)
+      | inr no_idle ↦ elim (In-cond (may_hold_more s && nat_lt users.made users.limit) (StartOn user) (GrowAndStart (users.made + 1) (held_count s.share) ∷ []) _ no_idle.1) [
+        | inl grown ↦ let same = In-one (StartOn user) (GrowAndStart (users.made + 1) (held_count s.share)) grown.1 in absurd (cc)
+        | inr no_grow ↦ elim (In-cond (may_hold_more s && is_some (first_of users.free)) (StartOn user) (map (λ user'. TakeAndStart user' (held_count s.share)) users.free) (DropArrival ∷ []) no_grow.1) [
+          | inl taken ↦ let found = In-map (λ user'. TakeAndStart user' (held_count s.share)) (StartOn user) users.free taken.1 in absurd (cc)
+          | inr dropped ↦ let same = In-one (StartOn user) DropArrival dropped.1 in absurd (cc)
+        ]
+      ]
+    ]
+  ]

@@ -21,3 +21,5 @@ pub mod Rehearsal
 pub mod Examples
 pub mod FurtherExamples
 pub mod Stops
+pub mod Turns
+pub mod Slots

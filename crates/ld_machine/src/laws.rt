@@ -8,7 +8,7 @@ ghost use Rattle.ld_base.specs.declared.entry.Entry.{Entry};
 ghost use Rattle.ld_base.specs.declared.metric.NameSpec.{NameSpec};
 ghost use Rattle.ld_machine.specs.Plan.{Part, Plan};
 ghost use Rattle.ld_machine.specs.Settled.{has_items, is_distinct, items_in};
-ghost use Rattle.ld_machine.specs.State.{State, times_held};
+ghost use Rattle.ld_machine.specs.State.{Share, State, times_held};
 ghost use Rattle.ld_machine.specs.Effect.{after_entries, state_after};
 ghost use Rattle.ld_machine.specs.Moves.{Move, enabled};
 ghost use Rattle.ld_machine.specs.Order.{place_of, first_moves};
@@ -19,6 +19,8 @@ ghost use Rattle.ld_machine.specs.Rehearsal.{NothingEnabled};
 ghost use Rattle.ld_machine.specs.History.{ask_for, adds_one, adds_two, IsLegal, EndsInside};
 ghost use Rattle.ld_machine.specs.Stops.{WindsDown};
 ghost use Rattle.ld_machine.specs.Drops.{DropsAllowed};
+ghost use Rattle.ld_machine.specs.Turns.{StartsAlternate};
+ghost use Rattle.ld_machine.specs.Slots.{has_slots, times_slot};
 
 /// A tally passes the test exactly where it fits.
 pub fn fitting_tallies()
@@ -77,6 +79,19 @@ pub fn items_once()
 /// iteration at most.
 pub fn held_once()
     ensures { (plan : Plan) (history : List Entry) (user : ℕ) → IsLegal plan history → times_held user (state_after plan history).shares ≤ 1 }
+{}
+
+/// Behind a legal history each slot of a scenario whose executor has slots is held by one user at most.
+pub fn slots_once()
+    ensures { (plan : Plan) (history : List Entry) (n slot : ℕ) (part : Part) (share : Share) → IsLegal plan history →
+        slice_get plan.parts n ≡ Some part → IsTrue (has_slots part.executor) → slice_get (state_after plan history).shares n ≡ Some share →
+        times_slot slot share.held ≤ 1 }
+{}
+
+/// In a legal history no user plays two iterations at once: behind each Start the next Start or Return
+/// of its user, if there is one, is the Return of this very iteration.
+pub fn starts_alternate()
+    ensures { (plan : Plan) (history : List Entry) → IsLegal plan history → StartsAlternate history }
 {}
 
 /// A step leaves the state that its entries lead to.
