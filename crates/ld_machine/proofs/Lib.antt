@@ -13,3 +13,4 @@ pub mod HolderLemmas
 pub mod TurnLemmas
 pub mod SlotLemmas
 pub mod ResultLemmas
+pub mod SettledLemmas

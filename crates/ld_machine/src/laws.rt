@@ -1,13 +1,13 @@
 // The laws of the machine, over all plans, states and histories.
-ghost use Rattle.std.specs.Prelude.{◌≡◌, ◌∷◌, ◌++◌, ◌⊎◌, ◌↔◌, ◌<◌, ◌≤◌, ℕ, List, [], Contains, IsTrue, length, Some, slice_get};
+ghost use Rattle.std.specs.Prelude.{◌≡◌, ◌==◌, count_by, ◌∷◌, ◌++◌, ◌⊎◌, ◌↔◌, ◌<◌, ◌≤◌, ℕ, List, [], Contains, IsTrue, length, Some, slice_get};
 ghost use Rattle.ld_base.specs.Tally.{TallyView, TallyFits};
 ghost use Rattle.ld_base.specs.declared.ask.Ask.{Ask};
 ghost use Rattle.ld_base.specs.declared.ask.Ask.TheVariants as asks;
 ghost use Rattle.ld_base.specs.declared.reply.Reply.TheVariants.{Wait};
 ghost use Rattle.ld_base.specs.declared.entry.Entry.{Entry};
 ghost use Rattle.ld_base.specs.declared.metric.NameSpec.{NameSpec};
-ghost use Rattle.ld_machine.specs.Plan.{Part, Plan};
-ghost use Rattle.ld_machine.specs.Settled.{has_items, is_distinct, items_in};
+ghost use Rattle.ld_machine.specs.Plan.{Part, Plan, owned_items};
+ghost use Rattle.ld_machine.specs.Settled.{all_returned, has_items, is_distinct, items_in, IsSettled};
 ghost use Rattle.ld_machine.specs.State.{Share, State, times_held};
 ghost use Rattle.ld_machine.specs.Effect.{after_entries, state_after};
 ghost use Rattle.ld_machine.specs.Moves.{Move, enabled};
@@ -73,6 +73,15 @@ pub fn fronts()
 pub fn items_once()
     ensures { (plan : Plan) (history : List Entry) (n : ℕ) (part : Part) → IsLegal plan history → slice_get plan.parts n ≡ Some part →
         IsTrue (has_items part.executor) → IsTrue (is_distinct (items_in n history)) }
+{}
+
+/// Where a history is settled, each owned item of a scenario stands in exactly one Start, Drop or Late
+/// entry of it, and each Start has its Return.
+pub fn settled_items()
+    ensures items { (plan : Plan) (history : List Entry) (n : ℕ) (part : Part) (item : ℕ) → IsSettled plan history →
+        slice_get plan.parts n ≡ Some part → IsTrue (has_items part.executor) → Contains (owned_items part.executor) item →
+        count_by (λ k. k == item) (items_in n history) ≡ 1 }
+    ensures returned { (plan : Plan) (history : List Entry) → IsSettled plan history → IsTrue (all_returned history) }
 {}
 
 /// Behind a legal history no user is held twice, by one scenario or by two; so it is busy with one
