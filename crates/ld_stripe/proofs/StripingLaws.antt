@@ -1,14 +1,15 @@
 -- The laws of striping: there is one, it gives each position its weight of every period, and the
 -- shares of all positions are the whole.
-use Rattle.std.proofs.Common.{◌≡◌, ◌<◌, ◌≤◌, ◌+◌, ◌*◌, ◌%◌, ◌∙◌, ℕ, zero, suc, List, [], ◌∷◌, ◌++◌, inl, inr, length, get_or, map, take, arith, refl, ap, ap₂, sym, subst, nat_eq, add-one}
+use Rattle.std.proofs.Common.{◌≡◌, ◌<◌, ◌≤◌, ◌+◌, ◌*◌, ◌/◌, ◌%◌, ◌∙◌, ℕ, zero, suc, List, [], ◌∷◌, ◌++◌, inl, inr, length, get_or, map, take, arith, refl, ap, ap₂, sym, subst, nat_eq, add-one}
 use Rattle.std.specs.Prelude.{sum, count_by}
 use Rattle.std.specs.List.{range_with_len}
 use Rattle.std.proofs.Math.Decide.{dec_lt}
-use Rattle.std.proofs.Math.Nat.{mod-lt, mod-eq_of_lt, add-mod_right, mul_comm, mul-le-mul_right, mul-lt-mul_of_pos_right}
+use Rattle.std.proofs.Math.Nat.{mod-lt, mod-add-div', suc-mul, zero-mul, mod-eq_of_lt, add-mod_right, mul_comm, mul-le-mul_right, mul-lt-mul_of_pos_right}
 use Rattle.std.proofs.lemmas.List.{take_all, length-take-le, length_push, get_or_past}
 use Rattle.std.proofs.Math.Seq.{take-suc}
 use Rattle.std.proofs.lemmas.Bool.Decides.{eqb_tells}
-use Rattle.std.proofs.lemmas.List.Sums.{sum_by-cons, sum_by_push}
+use Rattle.std.proofs.lemmas.List.Sums.{count_by-le-length, sum_by-cons, sum_by_push}
+use Rattle.std.proofs.lemmas.List.FromFn.{length-range_with_len}
 use Rattle.ld_stripe.specs.Striping.{IsDue, IsFirstDue, FollowsWeights, IsStriping, given, owner_at, share_at}
 use Rattle.ld_stripe.proofs.FirstDueLemmas.{Leads, leads_none, leads_takes, leads_keeps, leads_all, one_first}
 use Rattle.ld_stripe.proofs.GivenLemmas.{given-push, one_if, one_if_same, one_if_other, given_all, sum_from, sum_from-add, hits_once, weight_of, weights_all, same_terms}
@@ -176,6 +177,42 @@ share_period weights owners s j (suc v) =
     let again : (v + sum weights) % length owners ≡ v % length owners =
     rw s.period (add-mod_right v (sum weights)) in
     let hit : one_if (owner_at owners (v + sum weights)) j ≡ one_if (owner_at owners v) j = ap (λ i. one_if (get_or owners i 0) j) again in
+    omega arith
+
+-- whole periods give a position its weight each, and the rest what stands in it
+pub share_by_periods : (weights owners : List ℕ) → IsStriping weights owners → (j q r : ℕ) → r ≤ length owners →
+    share_at owners j (q * length owners + r) ≡ q * get_or weights j 0 + given (take r owners) j
+share_by_periods weights owners s j zero r h =
+    let none = zero-mul (length owners) in
+    let nothing = zero-mul (get_or weights j 0) in
+    let at : 0 * length owners + r ≡ r = omega arith in
+    let first = share_below_period owners j r h in
+    let here = ap (λ n. share_at owners j n) at in
+    omega arith
+share_by_periods weights owners s j (suc q) r h =
+    let period = s.period in
+    let periods = suc-mul q (length owners) in
+    let shares = suc-mul q (get_or weights j 0) in
+    let at : suc q * length owners + r ≡ q * length owners + r + sum weights = omega arith in
+    let here = ap (λ n. share_at owners j n) at in
+    let more = share_period weights owners s j (q * length owners + r) in
+    let before = share_by_periods weights owners s j q r h in
+    omega arith
+
+-- the share of any number of indices, by whole periods and the rest
+pub share_split : (weights owners : List ℕ) → IsStriping weights owners → (j v : ℕ) → 0 < length owners →
+    share_at owners j v ≡ v / length owners * get_or weights j 0 + given (take (v % length owners) owners) j
+share_split weights owners s j v some =
+    let rest = mod-lt v some in
+    let whole = mod-add-div' v (length owners) in
+    let at : v ≡ v / length owners * length owners + v % length owners = omega arith in
+    ap (λ n. share_at owners j n) at ∙ share_by_periods weights owners s j (v / length owners) (v % length owners) (omega arith)
+
+-- a share is at most the number of indices
+pub share_at_most : (owners : List ℕ) (j v : ℕ) → share_at owners j v ≤ v
+share_at_most owners j v =
+    let most = count_by-le-length (λ x. nat_eq (owner_at owners x) j) (range_with_len 0 v) in
+    let long = length-range_with_len 0 v in
     omega arith
 
 sum_over_range : (f : ℕ → ℕ) (p n : ℕ) → sum (map f (range_with_len p n)) ≡ sum_from f p n

@@ -1,6 +1,6 @@
 // The owners of one period.
 ghost use Rattle.std.specs.Prelude.{◌≡◌, ◌<◌, ◌≤◌, length, sum, IfOk};
-ghost use Rattle.ld_stripe.specs.Striping.{IsFirstDue, IsStriping, FollowsWeights};
+ghost use Rattle.ld_stripe.specs.Striping.{given, IsFirstDue, IsStriping, FollowsWeights, share_at};
 ghost use Rattle.ld_stripe.specs.Pattern.{AreGiven};
 
 use std::alloc::{AllocError, Global};
@@ -40,4 +40,24 @@ pub fn owners_of(alloc: Global, weights: &[u64], period: u64) -> Result<Vec<usiz
         owners.push(owner)?;
     }
     Ok(owners)
+}
+
+// How many of the indices below `v` a position owns: its weight of each whole period, and what stands
+// in the rest.
+pub fn share_of(weights: &[u64], owners: &[usize], position: usize, v: u64) -> u64
+    requires striping { IsStriping weights.now owners.now }
+    requires some { 0 < length owners.now }
+    requires inside { position < length weights.now }
+    ensures { result ≡ share_at owners.now position v }
+{
+    let period = owners.len() as u64;
+    let rest = (v % period) as usize;
+    v / period * weights[position] + times_given(&owners[..rest], position)
+}
+
+// How many of the owners are a position.
+fn times_given(owners: &[usize], position: usize) -> u64
+    ensures { result ≡ given owners.now position }
+{
+    owners.iter().filter(|owner| **owner == position).count() as u64
 }

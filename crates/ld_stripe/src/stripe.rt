@@ -1,5 +1,5 @@
 use crate::fault::StripeFault;
-use crate::pattern::owners_of;
+use crate::pattern::{owners_of, share_of};
 use crate::weights::{capped_sum, first_zero, in_lowest_terms};
 use std::alloc::Global;
 use std::marker::Model;
@@ -28,7 +28,7 @@ impl Model for Stripe {
 
 impl Stripe {
     ghost use Rattle.std.specs.Prelude.{◌≡◌, ◌≢◌, ◌<◌, ◌≤◌, ◌%◌, length, IfOk, IfErr};
-    ghost use Rattle.ld_stripe.specs.Striping.{IsStriping, IsStripingOf, owner_at};
+    ghost use Rattle.ld_stripe.specs.Striping.{IsStriping, IsStripingOf, owner_at, share_at};
     ghost use Rattle.ld_stripe.specs.StripeFault.{IsRefusal};
     ghost use Rattle.ld_stripe.specs.declared.fault.StripeFault.{StripeFault};
 
@@ -62,5 +62,14 @@ impl Stripe {
     {
         let period = self.owners.len() as u64;
         self.owners[(index % period) as usize]
+    }
+
+    /// How many of the indices below `v` a position owns.
+    pub fn share(&self, position: usize, v: u64) -> u64
+        requires { position < length self.now.weights }
+        ensures share { result ≡ share_at self.now.owners position v }
+        ensures striping { IsStriping self.now.weights self.now.owners }
+    {
+        share_of(&self.weights, &self.owners, position, v)
     }
 }
