@@ -1,9 +1,9 @@
 -- The greatest common divisor of a list, number by number.
-use Rattle.std.proofs.Common.{◌≡◌, ◌<◌, ◌+◌, ◌*◌, ◌/◌, ◌∷◌, ◌++◌, ◌∙◌, [], ℕ, List, length, get_or, map, take, arith, ap, ap₂, refl, sym, subst}
+use Rattle.std.proofs.Common.{◌≡◌, ◌<◌, ◌≤◌, ◌+◌, ◌*◌, ◌/◌, ◌∷◌, ◌++◌, ◌∙◌, [], ℕ, List, length, get_or, map, take, arith, ap, ap₂, refl, sym, subst}
 use Rattle.std.specs.Prelude.{All, Some, sum}
 use Rattle.std.proofs.lemmas.List.Sums.{sum_by-cons}
 use Rattle.std.specs.Int.{◌∣◌, IsGcd}
-use Rattle.std.proofs.Math.Nat.{mul-div_cancel', dvd-zero, dvd_antisymm, eq-zero_of_zero-dvd, mul-zero, zero-mul, mul-add, eq_of_mul-eq-mul_left}
+use Rattle.std.proofs.Math.Nat.{mul-div_cancel', dvd-zero, dvd_antisymm, eq-zero_of_zero-dvd, mul-zero, zero-mul, one-mul, mul-le-mul_right, mul-add, eq_of_mul-eq-mul_left}
 use Rattle.std.proofs.Math.Decide.{dec_lt}
 use Rattle.std.proofs.lemmas.List.{take_more}
 use Rattle.std.proofs.lemmas.List.Elements.{All-push, All-pop, All-head, All-tail, All-nil}
@@ -49,18 +49,24 @@ lowest_terms numbers d greatest = record {
   multiples = multiples_of d numbers greatest.divides;
 }
 
--- the greatest common divisor of numbers above 0 is above 0
-pub divisor_positive : (numbers : List ℕ) (d : ℕ) → 0 < length numbers → All (λ n. 0 < n) numbers →
-    IsGreatestDivisor numbers d → 0 < d
-divisor_positive numbers d some positive greatest =
+-- the greatest common divisor of numbers that aren't all zero is above 0
+pub divisor_positive : (numbers : List ℕ) (d : ℕ) → 0 < sum numbers → IsGreatestDivisor numbers d → 0 < d
+divisor_positive numbers d some greatest =
     elim (dec_lt 0 d) [
       | yes above ↦ above
       | no zero ↦
-          let first = positive 0 0 some in
-          let divides : 0 ∣ get_or numbers 0 0 = subst (λ g. g ∣ get_or numbers 0 0) (omega arith) (greatest.divides 0 0 some) in
-          let none : get_or numbers 0 0 ≡ 0 = eq-zero_of_zero-dvd divides in
+          let none : d ≡ 0 = omega arith in
+          let nothing = zeros_sum numbers (λ k e inside. eq-zero_of_zero-dvd (subst (λ g. g ∣ get_or numbers k e) none (greatest.divides k e inside))) in
           absurd (omega arith)
     ]
+  where
+    zeros_sum : (ns : List ℕ) → All (λ n. n ≡ 0) ns → sum ns ≡ 0
+    zeros_sum [] all = refl
+    zeros_sum (n ∷ ns) all =
+        let head : n ≡ 0 = All-head (λ m. m ≡ 0) n ns all in
+        let rest = zeros_sum ns (All-tail (λ m. m ≡ 0) n ns all) in
+        let split = sum_by-cons (λ x. x) n ns in
+        omega arith
 
 sum_of_multiples : (d : ℕ) (numbers : List ℕ) → sum (map (λ n. d * n) numbers) ≡ d * sum numbers
 sum_of_multiples d [] = sym (mul-zero d)
@@ -111,6 +117,15 @@ period_positive numbers reduced some terms =
           let none : terms.divisor * sum reduced ≡ 0 = ap (λ s. terms.divisor * s) (let e : sum reduced ≡ 0 = omega arith in e) ∙ mul-zero terms.divisor in
           absurd (omega arith)
     ]
+
+-- and it is at most the sum of the numbers
+pub period_at_most : (numbers reduced : List ℕ) → 0 < sum numbers → IsLowestTerms numbers reduced → sum reduced ≤ sum numbers
+period_at_most numbers reduced some terms =
+    let whole = sum_reduced numbers reduced terms in
+    let positive = divisor_positive numbers terms.divisor some terms.is_greatest in
+    let least = mul-le-mul_right (sum reduced) positive in
+    let once = one-mul (sum reduced) in
+    omega arith
 
 -- numbers above zero have a sum above zero
 pub sum_positive : (numbers : List ℕ) → 0 < length numbers → All (λ n. 0 < n) numbers → 0 < sum numbers

@@ -66,3 +66,7 @@ pub record IsLowestTerms (numbers reduced : List ℕ) : Type 0 where
 pub record IsStripingOf (weights : List ℕ) (s : Striping) : Type 0 where
   pub lowest_terms : IsLowestTerms weights s.weights
   pub striping : IsStriping s.weights s.owners
+
+-- how many of the indices below v each position owns, in order of positions
+abbrev pub shares_at : Striping → ℕ → List ℕ
+shares_at s v = map (λ j. share_at s.owners j v) (range_with_len 0 (length s.weights))

@@ -1,6 +1,6 @@
 // The owners of one period.
 ghost use Rattle.std.specs.Prelude.{◌≡◌, ◌<◌, ◌≤◌, length, sum, IfOk};
-ghost use Rattle.ld_stripe.specs.Striping.{given, IsFirstDue, IsStriping, FollowsWeights, share_at};
+ghost use Rattle.ld_stripe.specs.Striping.{given, IsFirstDue, IsStriping, FollowsWeights, share_at, shares_at};
 ghost use Rattle.ld_stripe.specs.Pattern.{AreGiven};
 
 use std::alloc::{AllocError, Global};
@@ -53,6 +53,26 @@ pub fn share_of(weights: &[u64], owners: &[usize], position: usize, v: u64) -> u
     let period = owners.len() as u64;
     let rest = (v % period) as usize;
     v / period * weights[position] + times_given(&owners[..rest], position)
+}
+
+// How many of the indices below `v` each position owns.
+pub fn shares_of(
+    alloc: Global,
+    weights: &[u64],
+    owners: &[usize],
+    v: u64,
+) -> Result<Vec<u64>, AllocError>
+    requires striping { IsStriping weights.now owners.now }
+    requires some { 0 < length owners.now }
+    ensures shares { IfOk result (λ shares. shares.items ≡ shares_at (record { weights = weights.now; owners = owners.now }) v) }
+    ensures each { IfOk result (λ shares. length shares.items ≡ length weights.now) }
+    ensures total { IfOk result (λ shares. sum shares.items ≡ v) }
+{
+    let mut shares = Vec::with_capacity(alloc, weights.len())?;
+    for position in 0..weights.len() {
+        shares.push(share_of(weights, owners, position, v))?;
+    }
+    Ok(shares)
 }
 
 // How many of the owners are a position.

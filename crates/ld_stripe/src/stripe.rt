@@ -1,7 +1,10 @@
+ghost use Rattle.std.specs.Prelude.{◌≡◌, ◌<◌, ◌≤◌, length, sum, IfOk};
+ghost use Rattle.ld_stripe.specs.Striping.{IsLowestTerms, IsStriping};
+
 use crate::fault::StripeFault;
-use crate::pattern::{owners_of, share_of};
+use crate::pattern::{owners_of, share_of, shares_of};
 use crate::weights::{capped_sum, first_zero, in_lowest_terms};
-use std::alloc::Global;
+use std::alloc::{AllocError, Global};
 use std::marker::Model;
 
 /// The greatest period that a striping may have, in indices.
@@ -28,7 +31,7 @@ impl Model for Stripe {
 
 impl Stripe {
     ghost use Rattle.std.specs.Prelude.{◌≡◌, ◌≢◌, ◌<◌, ◌≤◌, ◌%◌, length, IfOk, IfErr};
-    ghost use Rattle.ld_stripe.specs.Striping.{IsStriping, IsStripingOf, owner_at, share_at};
+    ghost use Rattle.ld_stripe.specs.Striping.{IsStriping, IsStripingOf, owner_at, share_at, shares_at};
     ghost use Rattle.ld_stripe.specs.StripeFault.{IsRefusal};
     ghost use Rattle.ld_stripe.specs.declared.fault.StripeFault.{StripeFault};
 
@@ -40,6 +43,7 @@ impl Stripe {
         requires some { 0 < length weights.now }
         requires few { length weights.now ≤ 100 }
         ensures striping { IfOk result (λ s. IsStripingOf weights.now s) }
+        ensures positions { IfOk result (λ s. length s.weights ≡ length weights.now) }
         ensures accepted { IfOk result (λ s. (f : StripeFault) → IsRefusal weights.now f → ⊥) }
         ensures refused { IfErr result (λ f. f ≢ StripeFault.Memory → IsRefusal weights.now f) }
     {
@@ -72,4 +76,32 @@ impl Stripe {
     {
         share_of(&self.weights, &self.owners, position, v)
     }
+
+    /// The striping of the shares that the positions have of `v` indices, from 1 to 100,000. Each
+    /// position keeps its place, and one without a share owns nothing.
+    pub fn rescale(&self, alloc: Global, v: u64) -> Result<Stripe, StripeFault>
+        requires some { 1 ≤ v }
+        requires few { v ≤ 100000 }
+        ensures striping { IfOk result (IsStripingOf (shares_at self.now v)) }
+        ensures positions { IfOk result (λ s. length s.weights ≡ length self.now.weights) }
+        ensures memory { IfErr result (λ f. f ≡ StripeFault.Memory) }
+    {
+        let shares = shares_of(alloc, &self.weights, &self.owners, v)?;
+        let (weights, owners) = rescaled(alloc, &shares)?;
+        Ok(Stripe { weights, owners })
+    }
+}
+
+// The shares in lowest terms, and the owners of one period of theirs.
+fn rescaled(alloc: Global, shares: &[u64]) -> Result<(Vec<u64>, Vec<usize>), AllocError>
+    requires some { 0 < sum shares.now }
+    requires few { sum shares.now ≤ 100000 }
+    ensures lowest_terms { IfOk result (λ pair. IsLowestTerms shares.now pair.0.items) }
+    ensures each { IfOk result (λ pair. length pair.0.items ≡ length shares.now) }
+    ensures striping { IfOk result (λ pair. IsStriping pair.0.items pair.1.items) }
+    ensures some { IfOk result (λ pair. 0 < length pair.1.items) }
+{
+    let weights = in_lowest_terms(alloc, shares)?;
+    let owners = owners_of(alloc, &weights, capped_sum(&weights))?;
+    Ok((weights, owners))
 }

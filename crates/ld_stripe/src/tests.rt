@@ -38,3 +38,38 @@ fn weights_are_refused(rt: HostRuntime) {
     assert!(rt; matches!(wide, Err(StripeFault::PeriodTooLarge(u64::MAX))));
     assert!(rt; Stripe::of_weights(alloc, &[199_998, 2]).is_ok());
 }
+
+/// The shares of the positions, whole periods and a part of one.
+#[test]
+fn shares_follow_the_weights(rt: HostRuntime) -> Result<(), Fail> {
+    let stripe = Stripe::of_weights(rt.alloc(), &[2, 1, 3])?;
+    for (v, shares) in [
+        (0, [0, 0, 0]),
+        (4, [1, 0, 2]),
+        (6, [2, 1, 3]),
+        (16, [5, 2, 9]),
+    ] {
+        for (position, share) in shares.iter().enumerate() {
+            assert_eq!(rt;
+                stripe.share(position, v),
+                *share,
+                "of {position} below {v}"
+            );
+        }
+    }
+    Ok(())
+}
+
+/// A striping of shares: a position without a share keeps its place and owns nothing.
+#[test]
+fn rescaling_keeps_positions(rt: HostRuntime) -> Result<(), Fail> {
+    let halves = Stripe::of_weights(rt.alloc(), &[1, 1])?;
+    let three = halves.rescale(rt.alloc(), 3)?;
+    for (index, owner) in [(0, 0), (1, 1), (2, 0), (3, 0)] {
+        assert_eq!(rt; three.owner(index), owner, "of {index}");
+    }
+    let one = halves.rescale(rt.alloc(), 1)?;
+    assert_eq!(rt; one.owner(9), 0);
+    assert_eq!(rt; one.share(1, 1_000), 0);
+    Ok(())
+}

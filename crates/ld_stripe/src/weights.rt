@@ -1,5 +1,5 @@
 // The weights of the positions, before they are given indices.
-ghost use Rattle.std.specs.Prelude.{◌≡◌, ◌<◌, ◌-◌, ◌/◌, ◌^◌, All, length, map, sum, min, IfOk, IfNone};
+ghost use Rattle.std.specs.Prelude.{◌≡◌, ◌<◌, ◌≤◌, ◌-◌, ◌/◌, ◌^◌, All, length, map, sum, min, IfOk, IfNone};
 ghost use Rattle.ld_stripe.specs.StripeFault.{first_zero};
 ghost use Rattle.ld_stripe.specs.Striping.{IsGreatestDivisor, IsLowestTerms};
 
@@ -16,8 +16,7 @@ pub fn first_zero(weights: &[u64]) -> Option<usize>
 
 // The greatest common divisor of all the numbers.
 fn common_divisor(numbers: &[u64]) -> u64
-    requires some { 0 < length numbers.now }
-    requires positive { All (λ n. 0 < n) numbers.now }
+    requires { 0 < sum numbers.now }
     ensures greatest { IsGreatestDivisor numbers.now result }
     ensures positive { 0 < result }
 {
@@ -30,9 +29,11 @@ fn common_divisor(numbers: &[u64]) -> u64
 
 // The numbers, each divided by the greatest common divisor of all.
 pub fn in_lowest_terms(alloc: Global, numbers: &[u64]) -> Result<Vec<u64>, AllocError>
-    requires some { 0 < length numbers.now }
-    requires positive { All (λ n. 0 < n) numbers.now }
-    ensures { IfOk result (λ reduced. IsLowestTerms numbers.now reduced.items) }
+    requires { 0 < sum numbers.now }
+    ensures terms { IfOk result (λ reduced. IsLowestTerms numbers.now reduced.items) }
+    ensures each { IfOk result (λ reduced. length reduced.items ≡ length numbers.now) }
+    ensures some { IfOk result (λ reduced. 0 < sum reduced.items) }
+    ensures at_most { IfOk result (λ reduced. sum reduced.items ≤ sum numbers.now) }
 {
     quotients(alloc, numbers, common_divisor(numbers))
 }

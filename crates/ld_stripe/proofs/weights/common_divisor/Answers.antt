@@ -9,5 +9,5 @@ loop-number-preserved c = greatest_more _ _ _ _ c.loop-number-test.true c.loop-n
 
 pub returns-clause-positive : goal.returns-clause-positive
 returns-clause-positive c =
-    divisor_positive _ _ c.requires.some c.requires.positive
+    divisor_positive _ _ c.requires
     (subst (λ ns. IsGreatestDivisor ns c.loop-number.divisor) (take_all _ _ c.loop-number-test.false) c.loop-number.invariant)
