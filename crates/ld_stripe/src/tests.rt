@@ -45,9 +45,9 @@ fn shares_follow_the_weights(rt: HostRuntime) -> Result<(), Fail> {
     let stripe = Stripe::of_weights(rt.alloc(), &[2, 1, 3])?;
     for (v, shares) in [
         (0, [0, 0, 0]),
-        (4, [1, 0, 2]),
+        (4, [2, 0, 2]),
         (6, [2, 1, 3]),
-        (16, [5, 2, 9]),
+        (16, [6, 2, 8]),
     ] {
         for (position, share) in shares.iter().enumerate() {
             assert_eq!(rt;
