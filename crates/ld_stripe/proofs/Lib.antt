@@ -5,3 +5,4 @@ pub mod PatternLemmas
 pub mod LowestTermsLemmas
 pub mod StripingLaws
 pub mod StripeFaultLemmas
+pub mod PlaceLemmas

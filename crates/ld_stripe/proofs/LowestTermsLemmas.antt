@@ -6,7 +6,7 @@ use Rattle.std.specs.Int.{◌∣◌, IsGcd}
 use Rattle.std.proofs.Math.Nat.{mul-div_cancel', dvd-zero, dvd_antisymm, eq-zero_of_zero-dvd, mul-zero, zero-mul, one-mul, mul-le-mul_right, mul-add, eq_of_mul-eq-mul_left}
 use Rattle.std.proofs.Math.Decide.{dec_lt}
 use Rattle.std.proofs.lemmas.List.{take_more}
-use Rattle.std.proofs.lemmas.List.Elements.{All-push, All-pop, All-head, All-tail, All-nil}
+use Rattle.std.proofs.lemmas.List.Elements.{All-push, All-pop, All-cons, All-head, All-tail, All-nil}
 use Rattle.std.proofs.lemmas.Nat.Gcd.{dvd_trans}
 use Rattle.ld_stripe.specs.Striping.{DividesAll, IsGreatestDivisor, IsLowestTerms}
 
@@ -134,3 +134,21 @@ sum_positive (n ∷ ns) some positive =
     let first : 0 < n = positive 0 0 (omega arith) in
     let split = sum_by-cons (λ x. x) n ns in
     omega arith
+
+positive_parts : (d : ℕ) (ns : List ℕ) → All (λ n. 0 < n) (map (λ n. d * n) ns) → All (λ n. 0 < n) ns
+positive_parts d [] all = All-nil (λ n. 0 < n)
+positive_parts d (n ∷ ns) all =
+    let head : 0 < d * n = All-head (λ m. 0 < m) (d * n) (map (λ m. d * m) ns) all in
+    let above : 0 < n = elim (dec_lt 0 n) [
+      | yes some ↦ some
+      | no none ↦
+          let nothing : d * n ≡ 0 = ap (λ m. d * m) (let e : n ≡ 0 = omega arith in e) ∙ mul-zero d in
+          absurd (omega arith)
+    ] in
+    All-cons (λ m. 0 < m) n ns above (positive_parts d ns (All-tail (λ m. 0 < m) (d * n) (map (λ m. d * m) ns) all))
+
+-- numbers above zero are above zero in lowest terms
+pub reduced_positive : (numbers reduced : List ℕ) → All (λ n. 0 < n) numbers → IsLowestTerms numbers reduced →
+    All (λ n. 0 < n) reduced
+reduced_positive numbers reduced positive terms =
+    positive_parts terms.divisor reduced (subst (λ ns. All (λ n. 0 < n) ns) terms.multiples positive)

@@ -140,7 +140,7 @@ range_more a zero = ap (λ x. x ∷ []) (omega arith)
 range_more a (suc n) =
     ap (λ xs. a ∷ xs) (range_more (a + 1) n ∙ ap (λ x. range_with_len (a + 1) n ++ x ∷ []) (omega arith))
 
-share-suc : (owners : List ℕ) (j v : ℕ) →
+pub share-suc : (owners : List ℕ) (j v : ℕ) →
     share_at owners j (suc v) ≡ share_at owners j v + one_if (owner_at owners v) j
 share-suc owners j v =
     ap (λ xs. count_by (λ x. nat_eq (owner_at owners x) j) xs) (range_more 0 v ∙ ap (λ x. range_with_len 0 v ++ x ∷ []) (omega arith))

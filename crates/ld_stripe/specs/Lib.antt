@@ -1,3 +1,4 @@
 pub mod Striping
 pub mod StripeFault
 pub mod Pattern
+pub mod Place

@@ -1,6 +1,7 @@
 // The laws of striping, over all weights.
 ghost use Rattle.std.specs.Prelude.{◌≡◌, ◌+◌, ◌<◌, ℕ, List, length, map, sum, slice_index};
 ghost use Rattle.std.specs.List.{range_with_len};
+ghost use Rattle.ld_stripe.specs.Place.{IsPlace};
 ghost use Rattle.ld_stripe.specs.Striping.{IsLowestTerms, IsStriping, owner_at, share_at};
 
 /// Weights that are not all zero have at most one form in lowest terms.
@@ -30,4 +31,9 @@ pub fn every_period()
 pub fn shares()
     ensures { (weights owners : List ℕ) → IsStriping weights owners → 0 < sum weights → (v : ℕ) →
         sum (map (λ j. share_at owners j v) (range_with_len 0 (length weights))) ≡ v }
+{}
+
+/// The segmented index has one place for each number, so `next` and `prev` undo each other.
+pub fn one_place()
+    ensures { (owners : List ℕ) (j scaled u v : ℕ) → IsPlace owners j scaled u → IsPlace owners j scaled v → u ≡ v }
 {}

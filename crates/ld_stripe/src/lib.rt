@@ -4,11 +4,13 @@
 mod fault;
 mod laws;
 mod pattern;
+mod segmented_index;
 mod stripe;
 mod weights;
 
 pub use fault::StripeFault;
-pub use laws::{every_period, one_form, one_owner, one_striping, shares};
+pub use laws::{every_period, one_form, one_owner, one_place, one_striping, shares};
+pub use segmented_index::SegmentedIndex;
 pub use stripe::Stripe;
 
 #[cfg(test)]

@@ -1,6 +1,6 @@
 // The owners of one period.
-ghost use Rattle.std.specs.Prelude.{◌≡◌, ◌<◌, ◌≤◌, length, sum, IfOk};
-ghost use Rattle.ld_stripe.specs.Striping.{given, IsFirstDue, IsStriping, FollowsWeights, share_at, shares_at};
+ghost use Rattle.std.specs.Prelude.{◌≡◌, ◌<◌, ◌≤◌, ◌-◌, ◌^◌, ◌⊎◌, length, sum, slice_index, IfOk};
+ghost use Rattle.ld_stripe.specs.Striping.{given, IsFirstDue, IsStriping, FollowsWeights, owner_at, share_at, shares_at};
 ghost use Rattle.ld_stripe.specs.Pattern.{AreGiven};
 
 use std::alloc::{AllocError, Global};
@@ -80,4 +80,43 @@ fn times_given(owners: &[usize], position: usize) -> u64
     ensures { result ≡ given owners.now position }
 {
     owners.iter().filter(|owner| **owner == position).count() as u64
+}
+
+// The least index from `from` on that a position with a weight owns.
+pub fn next_owned(weights: &[u64], owners: &[usize], position: usize, from: u64) -> u64
+    requires striping { IsStriping weights.now owners.now }
+    requires some { 0 < length owners.now }
+    requires weighted { 0 < slice_index weights.now position }
+    requires far { from ≤ 10 ^ 12 }
+    ensures owned { owner_at owners.now result ≡ position }
+    ensures least { share_at owners.now position result ≡ share_at owners.now position from }
+    ensures near { result ≤ 2 ^ 63 }
+{
+    let period = owners.len() as u64;
+    for index in from..from + period {
+        if owners[(index % period) as usize] == position {
+            return index;
+        }
+    }
+    unreachable!()
+}
+
+// The greatest index below `value` that a position owns, plus 1, or 0 where there is none.
+pub fn owned_below(weights: &[u64], owners: &[usize], position: usize, value: u64) -> u64
+    requires striping { IsStriping weights.now owners.now }
+    requires some { 0 < length owners.now }
+    ensures owned { (result ≡ 0) ⊎ (owner_at owners.now (result - 1) ≡ position) }
+    ensures same { share_at owners.now position result ≡ share_at owners.now position value }
+    ensures below { result ≤ value }
+{
+    let period = owners.len() as u64;
+    let low = value.saturating_sub(period);
+    let mut index = value;
+    while index > low {
+        index -= 1;
+        if owners[(index % period) as usize] == position {
+            return index + 1;
+        }
+    }
+    0
 }

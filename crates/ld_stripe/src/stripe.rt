@@ -30,7 +30,7 @@ impl Model for Stripe {
 }
 
 impl Stripe {
-    ghost use Rattle.std.specs.Prelude.{◌≡◌, ◌≢◌, ◌<◌, ◌≤◌, ◌%◌, length, IfOk, IfErr};
+    ghost use Rattle.std.specs.Prelude.{◌≡◌, ◌≢◌, ◌<◌, ◌≤◌, ◌%◌, All, length, IfOk, IfErr};
     ghost use Rattle.ld_stripe.specs.Striping.{IsStriping, IsStripingOf, owner_at, share_at, shares_at};
     ghost use Rattle.ld_stripe.specs.StripeFault.{IsRefusal};
     ghost use Rattle.ld_stripe.specs.declared.fault.StripeFault.{StripeFault};
@@ -44,6 +44,7 @@ impl Stripe {
         requires few { length weights.now ≤ 100 }
         ensures striping { IfOk result (λ s. IsStripingOf weights.now s) }
         ensures positions { IfOk result (λ s. length s.weights ≡ length weights.now) }
+        ensures weighted { IfOk result (λ s. All (λ w. 0 < w) s.weights) }
         ensures accepted { IfOk result (λ s. (f : StripeFault) → IsRefusal weights.now f → ⊥) }
         ensures refused { IfErr result (λ f. f ≢ StripeFault.Memory → IsRefusal weights.now f) }
     {
@@ -66,6 +67,22 @@ impl Stripe {
     {
         let period = self.owners.len() as u64;
         self.owners[(index % period) as usize]
+    }
+
+    // The weights of the positions.
+    pub(crate) fn weights(&self) -> &[u64]
+        ensures weights { result.now ≡ self.now.weights }
+        ensures striping { IsStriping self.now.weights self.now.owners }
+        ensures some { 0 < length self.now.owners }
+    {
+        self.weights.as_slice()
+    }
+
+    // The owners of one period.
+    pub(crate) fn owners(&self) -> &[usize]
+        ensures { result.now ≡ self.now.owners }
+    {
+        self.owners.as_slice()
     }
 
     /// How many of the indices below `v` a position owns.

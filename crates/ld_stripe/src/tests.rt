@@ -73,3 +73,23 @@ fn rescaling_keeps_positions(rt: HostRuntime) -> Result<(), Fail> {
     assert_eq!(rt; one.share(1, 1_000), 0);
     Ok(())
 }
+
+/// The places of a segmented index, forth, to a value and back.
+#[test]
+fn segmented_index_moves(rt: HostRuntime) -> Result<(), Fail> {
+    let stripe = Stripe::of_weights(rt.alloc(), &[3, 2, 1, 1, 1, 1, 1])?;
+    let mut index = SegmentedIndex::new();
+    index.next(&stripe, 0);
+    assert_eq!(rt; (index.scaled, index.unscaled), (1, 1));
+    index.next(&stripe, 0);
+    assert_eq!(rt; (index.scaled, index.unscaled), (2, 5));
+    index.next(&stripe, 0);
+    assert_eq!(rt; (index.scaled, index.unscaled), (3, 8));
+    index.go_to(&stripe, 0, 7);
+    assert_eq!(rt; (index.scaled, index.unscaled), (2, 5));
+    index.prev(&stripe, 0);
+    assert_eq!(rt; (index.scaled, index.unscaled), (1, 1));
+    index.prev(&stripe, 0);
+    assert_eq!(rt; (index.scaled, index.unscaled), (0, 0));
+    Ok(())
+}

@@ -2,7 +2,7 @@ use Rattle.std.proofs.Common.{◌≤◌, arith, ap, subst, sym}
 use Rattle.std.specs.Prelude.{sum}
 use Rattle.ld_stripe.specs.StripeFault.{greatest_period}
 use Rattle.ld_stripe.specs.Striping.{IsStriping}
-use Rattle.ld_stripe.proofs.LowestTermsLemmas.{sum_positive}
+use Rattle.ld_stripe.proofs.LowestTermsLemmas.{reduced_positive, sum_positive}
 use Rattle.ld_stripe.proofs.StripeFaultLemmas.{not_refused}
 use Rattle.ld_stripe.proofs.stripe.Stripe.of_weights.Goals as goal
 
@@ -18,3 +18,6 @@ returns-clause-accepted c =
     let same = ap sum c.deref.ensures.value in
     let period : sum c.in_ok-weights.weights.items ≤ greatest_period = omega arith in
     not_refused _ _ (sym c.in_default.ensures.first) (sum_positive _ c.requires.some c.in_default.ensures.none) c.in_ok-weights.ensures.terms period
+
+pub returns-clause-weighted : goal.returns-clause-weighted
+returns-clause-weighted c = reduced_positive _ _ c.in_default.ensures.none c.in_ok-weights.ensures.terms
