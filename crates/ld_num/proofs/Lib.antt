@@ -1,1 +1,4 @@
 pub mod LcmLemmas
+pub mod FractionLemmas
+pub mod ShapeLemmas
+pub mod DigitLemmas

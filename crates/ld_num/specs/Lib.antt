@@ -1,1 +1,6 @@
 pub mod Multiple
+pub mod Terms
+pub mod Fraction
+pub mod Written
+pub mod Reading
+pub mod Shape
