@@ -1,11 +1,11 @@
 -- The least common multiple, from the greatest common divisor.
-use Rattle.std.proofs.Common.{◌≡◌, ◌<◌, ◌≤◌, ◌+◌, ◌*◌, ◌/◌, ◌%◌, ◌∙◌, ℕ, zero, suc, ◌^◌, arith, ap, refl, sym, subst}
+use Rattle.std.proofs.Common.{◌≡◌, ◌<◌, ◌≤◌, ◌*◌, ◌/◌, ◌%◌, ◌∙◌, ℕ, zero, suc, ◌^◌, arith, ap, sym, subst}
 use Rattle.std.specs.Int.{◌∣◌, IsGcd}
 use Rattle.std.specs.Prelude.{Option, Some, None, IfSome, IfNone}
 use Rattle.std.specs.Option.{SomeIff}
-use Rattle.std.proofs.Math.Nat.{mul-div_cancel', dvd-mul_left, dvd-mul_right, dvd_of_mul-dvd-mul_left, mul-dvd-mul_left, mul-dvd-mul_right, one-dvd, dvd-zero, eq-zero_of_zero-dvd, mul_comm, mul_assoc, zero-mul, mul-one, one-mul}
+use Rattle.std.proofs.Math.Nat.{mul-div_cancel', dvd-mul_left, dvd-mul_right, dvd_of_mul-dvd-mul_left, mul-dvd-mul_left, mul-dvd-mul_right, one-dvd, dvd-zero, eq-zero_of_zero-dvd, mul_comm, mul-one}
 use Rattle.std.proofs.Math.Decide.{dec_lt}
-use Rattle.std.proofs.lemmas.Nat.Gcd.{dvd_refl, dvd_trans, IsGcd-from_mod, IsGcd-from_zero}
+use Rattle.std.proofs.lemmas.Nat.Gcd.{dvd_trans, IsGcd-from_mod, IsGcd-from_zero}
 use Rattle.ld_num.specs.Multiple.{IsLcm}
 
 -- two numbers have a greatest common divisor
@@ -48,12 +48,15 @@ divides_times m a b g n positive gcd of_a of_b =
 pub coprime_quotients : (a b g : ℕ) → 0 < g → IsGcd a b g → IsGcd (a / g) (b / g) 1
 coprime_quotients a b g positive gcd =
     let left : g * (a / g) ≡ a = mul-div_cancel' g gcd.0 in
-    let right : g * (b / g) ≡ b = mul-div_cancel' g gcd.1 in
-    (one-dvd (a / g), one-dvd (b / g), λ d of_a of_b.
-        let in_a : g * d ∣ a = rw left at (mul-dvd-mul_left d g of_a) in
-        let in_b : g * d ∣ b = rw right at (mul-dvd-mul_left d g of_b) in
-        let in_g : g * d ∣ g * 1 = rw mul-one (gcd.2 (g * d) in_a in_b) in
-        dvd_of_mul-dvd-mul_left d positive in_g)
+    let right : g * (b / g) ≡ b = mul-div_cancel' g gcd.1 in (
+      one-dvd (a / g),
+      one-dvd (b / g),
+      λ d of_a of_b.
+          let in_a : g * d ∣ a = rw left at (mul-dvd-mul_left d g of_a) in
+          let in_b : g * d ∣ b = rw right at (mul-dvd-mul_left d g of_b) in
+          let in_g : g * d ∣ g * 1 = rw mul-one (gcd.2 (g * d) in_a in_b) in
+          dvd_of_mul-dvd-mul_left d positive in_g,
+    )
 
 -- the one number's quotient by the greatest common divisor, times the other number
 pub lcm_of : (a b g : ℕ) → 0 < g → IsGcd a b g → IsLcm a b (a / g * b)

@@ -2,3 +2,4 @@ pub mod LcmLemmas
 pub mod FractionLemmas
 pub mod ShapeLemmas
 pub mod DigitLemmas
+pub mod ReadingLemmas

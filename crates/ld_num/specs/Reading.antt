@@ -1,5 +1,5 @@
 -- What is read of a text, and when it is refused.
-use Rattle.std.specs.Prelude.{◌≡◌, ◌≢◌, ◌<◌, ◌≤◌, ◌*◌, ℕ, List, [], Result, Ok, Err}
+use Rattle.std.specs.Prelude.{◌≡◌, ◌≢◌, ◌<◌, ◌≤◌, ◌*◌, ℕ, List, []}
 use Rattle.ld_num.specs.Written.{Written, IsWritten, InDigits, longest_run, numerator, denominator}
 use Rattle.ld_num.specs.declared.fraction.Frac.{Frac}
 use Rattle.ld_num.specs.declared.fault.NumFault.{NumFault}

@@ -1,5 +1,5 @@
 -- How a number is written: as a quotient, a decimal or a percentage.
-use Rattle.std.specs.Prelude.{◌≡◌, ◌<◌, ◌≤◌, ◌+◌, ◌*◌, ◌^◌, ℕ, Bool, true, false, List, ◌∷◌, [], ◌++◌, length, max}
+use Rattle.std.specs.Prelude.{◌≡◌, ◌+◌, ◌*◌, ◌^◌, ℕ, List, ◌∷◌, [], ◌++◌, length, max}
 use Rattle.std.specs.Str.Parse.{IsNumeral, digits_value}
 
 -- a run of digits, or two with a point between them

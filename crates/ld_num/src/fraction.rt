@@ -3,6 +3,8 @@ ghost use Rattle.std.specs.Prelude.{◌≤◌};
 ghost use Rattle.ld_num.specs.Terms.{AreCoprime};
 
 use crate::divisor::gcd;
+use crate::fault::NumFault;
+use crate::reading::read_text;
 use std::cmp::Ordering;
 
 /// A fraction in lowest terms: the denominator is at least 1, and no number but 1 divides both. So
@@ -18,8 +20,27 @@ pub struct Frac {
 }
 
 impl Frac {
-    ghost use Rattle.std.specs.Prelude.{◌≡◌, ◌<◌, ◌*◌};
+    ghost use Rattle.std.specs.Prelude.{◌≡◌, ◌<◌, ◌*◌, IfOk, IfErr};
     ghost use Rattle.ld_num.specs.Fraction.{value_cmp};
+    ghost use Rattle.ld_num.specs.Written.{Written, IsWritten};
+    ghost use Rattle.ld_num.specs.Reading.{IsValueOf, IsRefusal};
+    ghost use Rattle.ld_num.specs.declared.fault.NumFault.{NumFault};
+
+    /// Reads a number that is written as a quotient `1/3`, as digits `2`, as a decimal `0.25`, or
+    /// as a percentage `25%` or `2.5%`. Each run of digits has 1 to 9 of them.
+    ///
+    /// Refused are, in this order, an empty text, one that isn't written so, a longer run of
+    /// digits, and a quotient whose second number is zero.
+    pub fn read(text: &[u8]) -> Result<Frac, NumFault>
+        ensures value { IfOk result (λ q. (w : Written) × IsWritten text.now w × IsValueOf w q) }
+        ensures accepted { IfOk result (λ _. (f : NumFault) → IsRefusal text.now f → ⊥) }
+        ensures refused { IfErr result (λ f. IsRefusal text.now f) }
+    {
+        if text.is_empty() {
+            return Err(NumFault::Empty);
+        }
+        read_text(text)
+    }
 
     /// The order of the values of two fractions.
     pub fn compare(&self, other: &Frac) -> Ordering

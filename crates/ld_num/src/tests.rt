@@ -1,4 +1,5 @@
 use super::*;
+use std::cmp::Ordering;
 
 #[test]
 fn divides(rt: HostRuntime) {
@@ -13,5 +14,78 @@ fn divides(rt: HostRuntime) {
     ];
     for (a, b, want) in table {
         assert_eq!(rt; gcd(a, b), want, "of {a} and {b}");
+    }
+}
+
+#[test]
+fn multiplies(rt: HostRuntime) {
+    let table = [
+        (1, 1, Some(1)),
+        (4, 6, Some(12)),
+        (7, 5, Some(35)),
+        (u64::MAX, 1, Some(u64::MAX)),
+        (1 << 63, 2, Some(1 << 63)),
+        (1 << 63, 3, None),
+    ];
+    for (a, b, want) in table {
+        assert_eq!(rt; lcm(a, b), want, "of {a} and {b}");
+    }
+}
+
+// What is read of a text, as the numbers of the fraction.
+fn parts_of(text: &str) -> Result<(u64, u64), NumFault> {
+    let fraction = Frac::read(text.as_bytes())?;
+    Ok((fraction.num, fraction.den))
+}
+
+#[test]
+fn reads_fractions(rt: HostRuntime) {
+    let table = [
+        ("1/3", Ok((1, 3))),
+        ("2/6", Ok((1, 3))),
+        ("0/5", Ok((0, 1))),
+        ("2", Ok((2, 1))),
+        ("0.25", Ok((1, 4))),
+        ("0.5", Ok((1, 2))),
+        ("25%", Ok((1, 4))),
+        ("2.5%", Ok((1, 40))),
+        ("101%", Ok((101, 100))),
+        (
+            "999999999.000000001%",
+            Ok((999_999_999_000_000_001, 100_000_000_000)),
+        ),
+        ("", Err(NumFault::Empty)),
+        ("/", Err(NumFault::BadDigit)),
+        ("-1/4", Err(NumFault::BadDigit)),
+        ("+1", Err(NumFault::BadDigit)),
+        ("1/2%", Err(NumFault::BadDigit)),
+        ("1/0.5", Err(NumFault::BadDigit)),
+        (".5", Err(NumFault::BadDigit)),
+        ("5.", Err(NumFault::BadDigit)),
+        ("5%%", Err(NumFault::BadDigit)),
+        ("%", Err(NumFault::BadDigit)),
+        ("1234567890", Err(NumFault::TooLarge)),
+        ("1234567890/0", Err(NumFault::TooLarge)),
+        ("1/0", Err(NumFault::ZeroDenominator)),
+        ("0/000", Err(NumFault::ZeroDenominator)),
+    ];
+    for (text, want) in &table {
+        assert!(rt; parts_of(text) == *want, "of {text}");
+    }
+}
+
+#[test]
+fn compares(rt: HostRuntime) {
+    let table = [
+        ("1/3", "0.5", Ordering::Less),
+        ("50%", "0.5", Ordering::Equal),
+        ("2", "1.999999999", Ordering::Greater),
+        ("999999999", "0.000000001%", Ordering::Greater),
+    ];
+    for (left, right, want) in table {
+        match (Frac::read(left.as_bytes()), Frac::read(right.as_bytes())) {
+            (Ok(left), Ok(right)) => assert!(rt; left.compare(&right) == want),
+            _ => assert!(rt; false, "{left} and {right} are read"),
+        }
     }
 }

@@ -1,6 +1,3 @@
-use Rattle.std.proofs.Common.{◌<◌, ◌≤◌, ◌^◌, ◌*◌, ◌/◌, ℕ}
-use Rattle.std.specs.Prelude.{IfSome, IfNone, Some, None}
-use Rattle.ld_num.specs.Multiple.{IsLcm}
 use Rattle.ld_num.proofs.LcmLemmas.{divisor_positive, lcm_of, found, past}
 use Rattle.ld_num.proofs.multiple.lcm.Goals as goal
 

@@ -1,4 +1,3 @@
-use Rattle.std.proofs.Common.{sym, subst, ◌<◌}
 use Rattle.ld_num.proofs.DigitLemmas.{power_positive}
 use Rattle.ld_num.proofs.reading.power_of_ten.Goals as goal
 

@@ -1,5 +1,5 @@
-use Rattle.std.proofs.Common.{◌≡◌, ◌<◌, ◌+◌, ◌-◌, ◌*◌, ◌∙◌, arith, ap, sym, get_or}
-use Rattle.ld_num.proofs.DigitLemmas.{digit_above, front_small, value_more, value_small}
+use Rattle.std.proofs.Common.{◌+◌, ◌-◌, ◌*◌, ◌∙◌, arith, ap, sym, get_or}
+use Rattle.ld_num.proofs.DigitLemmas.{digit_above, front_small, value_more}
 use Rattle.ld_num.proofs.reading.value_of.Goals as goal
 
 pub overflow_mul-value : goal.overflow_mul-value
