@@ -89,3 +89,17 @@ fn compares(rt: HostRuntime) {
         }
     }
 }
+
+#[test]
+fn prints_durations(rt: HostRuntime) -> Result<(), NumFault> {
+    for (moment, want) in [
+        (0, "at 0ns"),
+        (1_500_000_000, "at 1500000000ns"),
+        (u64::MAX, "at 18446744073709551615ns"),
+    ] {
+        let mut text = Vec::from_slice(rt.alloc(), b"at ")?;
+        print_duration(moment, &mut text)?;
+        assert_eq!(rt; text.as_slice(), want.as_bytes());
+    }
+    Ok(())
+}
