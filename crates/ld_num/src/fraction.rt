@@ -20,8 +20,8 @@ pub struct Frac {
 }
 
 impl Frac {
-    ghost use Rattle.std.specs.Prelude.{◌≡◌, ◌<◌, ◌*◌, IfOk, IfErr};
-    ghost use Rattle.ld_num.specs.Fraction.{value_cmp};
+    ghost use Rattle.std.specs.Prelude.{◌≡◌, ◌<◌, ◌*◌, ◌↔◌, IfOk, IfErr};
+    ghost use Rattle.ld_num.specs.Fraction.{value_cmp, HasNumbers};
     ghost use Rattle.ld_num.specs.Written.{Written, IsWritten};
     ghost use Rattle.ld_num.specs.Reading.{IsValueOf, IsRefusal};
     ghost use Rattle.ld_num.specs.declared.fault.NumFault.{NumFault};
@@ -42,9 +42,10 @@ impl Frac {
         read_text(text)
     }
 
-    /// The order of the values of two fractions.
+    /// The order of the values of two fractions. Values are equal exactly where the fractions are.
     pub fn compare(&self, other: &Frac) -> Ordering
-        ensures { result ≡ value_cmp self.now other.now }
+        ensures order { result ≡ value_cmp self.now other.now }
+        ensures equal { (result ≡ Ordering.Equal) ↔ HasNumbers self.now other.now.num other.now.den }
     {
         let left = self.num as u128 * other.den as u128;
         let right = other.num as u128 * self.den as u128;
