@@ -32,15 +32,15 @@ value_more digits i all below =
     digits_value_more 10 digits i below
     ∙ ap (λ d. digits_value 10 (take i digits) * 10 + d) (digit_value_is (get_or digits i 0) (digit_at digits i all below))
 
-pub value_small : (digits : List ℕ) → AllDigits 10 digits → length digits ≤ 9 → digits_value 10 digits < 10 ^ 9
-value_small digits all short =
+pub value_small : (digits : List ℕ) (most : ℕ) → AllDigits 10 digits → length digits ≤ most → digits_value 10 digits < 10 ^ most
+value_small digits most all short =
     let below = digits_value-lt 10 digits all in
-    let most : 10 ^ length digits ≤ 10 ^ 9 = pow-le-pow_right (let ten : 0 < 10 = omega arith in ten) short in
+    let most : 10 ^ length digits ≤ 10 ^ most = pow-le-pow_right (let ten : 0 < 10 = omega arith in ten) short in
     omega arith
 
-pub front_small : (digits : List ℕ) (i : ℕ) → AllDigits 10 digits → length digits ≤ 9 → digits_value 10 (take i digits) < 10 ^ 9
+pub front_small : (digits : List ℕ) (i : ℕ) → AllDigits 10 digits → length digits ≤ 16 → digits_value 10 (take i digits) < 10 ^ 16
 front_small digits i all short =
-    let whole = value_small digits all short in
+    let whole = value_small digits 16 all short in
     let front = digits_value-take-le 10 digits i (let one : 1 ≤ 10 = omega arith in one) in
     omega arith
 

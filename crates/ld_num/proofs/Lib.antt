@@ -3,3 +3,4 @@ pub mod FractionLemmas
 pub mod ShapeLemmas
 pub mod DigitLemmas
 pub mod ReadingLemmas
+pub mod DurationLemmas

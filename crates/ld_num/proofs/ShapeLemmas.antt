@@ -1,11 +1,13 @@
 -- A number is written in one way.
 use Rattle.std.proofs.Common.{◌≡◌, ◌<◌, ◌≤◌, ◌+◌, ◌-◌, ◌∙◌, ◌∷◌, ◌++◌, [], ℕ, suc, List, Bool, true, false, length, get_or, take, drop, arith, ap, sym, subst, refl, nat_lt, nat_eq, length-append}
+use Rattle.std.proofs.lemmas.Bool.{ltb-false}
+use Rattle.std.specs.Prelude.{unwrap_or, position, not}
 use Rattle.std.specs.List.{AllByRecursion, position_or_len, before_first, after_first}
 use Rattle.std.specs.Int.{IsInRange}
 use Rattle.std.specs.Str.Parse.{IsNumeral, AllDigits}
 use Rattle.std.proofs.Math.Seq.{take-append_seam, drop-append-add, take-length, get_or-append_seam}
 use Rattle.std.proofs.lemmas.List.{take_more, get_or-append-add}
-use Rattle.std.proofs.lemmas.List.Sums.{split_at_first, passes_at_first}
+use Rattle.std.proofs.lemmas.List.Sums.{split_at_first, passes_at_first, prefix_len-le-length}
 use Rattle.std.proofs.lemmas.Str.Parse.{digit_from_value, digit_at}
 use Rattle.std.proofs.lemmas.Bool.Decides.{nat_tests}
 use Rattle.ld_num.specs.Written.{Amount, Whole, Decimal, Written, Quotient, Plain, Percentage, AmountInDigits, IsWritten, amount_spelling, spelling, stroke, point, percent_sign}
@@ -37,7 +39,7 @@ found_behind : (mark : ℕ) (a b : List ℕ) → nat_eq mark mark ≡ true → L
 found_behind mark [] b same lacks = rw same
 found_behind mark (x ∷ a) b same lacks = let rest = found_behind mark a b same lacks.1 in rw lacks.0 (omega arith)
 
-lt_test : (m n : ℕ) → m < n → nat_lt m n ≡ true
+pub lt_test : (m n : ℕ) → m < n → nat_lt m n ≡ true
 lt_test m n below = grind (arith, nat_tests)
 
 not_lt_test : (m n : ℕ) → n ≤ m → nat_lt m n ≡ false
@@ -46,7 +48,7 @@ not_lt_test m n above = grind (arith, nat_tests)
 lt_from_test : (m n : ℕ) → nat_lt m n ≡ true → m < n
 lt_from_test m n is = grind (arith, nat_tests)
 
-eq_test : (n : ℕ) → nat_eq n n ≡ true
+pub eq_test : (n : ℕ) → nat_eq n n ≡ true
 eq_test n = grind (arith, nat_tests)
 
 eq_from_test : (m n : ℕ) → nat_eq m n ≡ true → m ≡ n
@@ -130,7 +132,7 @@ has_shape text (Percentage amount) is =
     )
 
 -- what stands before a byte, the byte, and what stands behind it are the text
-rejoined : (mark : ℕ) (text : List ℕ) → has mark text ≡ true →
+pub rejoined : (mark : ℕ) (text : List ℕ) → has mark text ≡ true →
     text ≡ before_first (λ b. nat_eq b mark) text ++ mark ∷ after_first (λ b. nat_eq b mark) text
 rejoined mark text there =
     let within = lt_from_test _ _ there in
@@ -165,3 +167,25 @@ shape_spelled text = decided (has stroke text) refl (has_percent text) refl
     decided false is true percent =
         rw (is, percent) (with_last text percent ∙ ap (λ t. t ++ percent_sign ∷ []) (amount_spelled (take (length text - 1) text)))
     decided false is false percent = rw (is, percent) (amount_spelled text)
+
+-- the place that a search answers, or else the length
+pub place_or_end : (p : ℕ → Bool) (text : List ℕ) → unwrap_or (position p text) (length text) ≡ position_or_len p text
+place_or_end p text = decided (nat_lt (position_or_len p text) (length text)) refl
+  where
+    decided : (b : Bool) → nat_lt (position_or_len p text) (length text) ≡ b →
+        unwrap_or (position p text) (length text) ≡ position_or_len p text
+    decided true is = rw is
+    decided false is =
+        let within = prefix_len-le-length (λ b. not (p b)) text in
+        let past = ltb-false (position_or_len p text) (length text) is in
+        rw is (omega arith)
+
+pub place_within : (p : ℕ → Bool) (text : List ℕ) → position_or_len p text ≤ length text
+place_within p text = prefix_len-le-length (λ b. not (p b)) text
+
+-- what stands before a byte that isn't there is the whole text
+pub has_whole : (mark : ℕ) (text : List ℕ) → has mark text ≡ false → before_first (λ b. nat_eq b mark) text ≡ text
+has_whole mark text none =
+    let within = place_within (λ b. nat_eq b mark) text in
+    let past = ltb-false (position_or_len (λ b. nat_eq b mark) text) (length text) none in
+    ap (λ n. take n text) (let e : position_or_len (λ b. nat_eq b mark) text ≡ length text = omega arith in e) ∙ take-length text

@@ -4,3 +4,5 @@ pub mod Fraction
 pub mod Written
 pub mod Reading
 pub mod Shape
+pub mod Duration
+pub mod Tally

@@ -15,7 +15,7 @@ ghost use Rattle.std.specs.Prelude.{
 };
 ghost use Rattle.std.specs.Char.{is_ascii_digit};
 ghost use Rattle.std.specs.List.{after_first, before_first, list_all};
-ghost use Rattle.std.specs.Str.Parse.{digits_value, IsNumeral};
+ghost use Rattle.std.specs.Str.Parse.{digits_value, AllDigits, IsNumeral};
 ghost use Rattle.ld_num.specs.Written.{Decimal, Quotient, Whole};
 ghost use Rattle.ld_num.specs.Shape.{amount_shape, has, has_percent, shape_of, with_percent, Reads};
 
@@ -96,7 +96,7 @@ fn read_decimal(whole: &[u8], part: &[u8], percent: bool) -> Result<Frac, NumFau
 }
 
 // What stands before and behind the first of a byte, if it is there.
-fn cut(text: &[u8], mark: u8) -> Option<(&[u8], &[u8])>
+pub(crate) fn cut(text: &[u8], mark: u8) -> Option<(&[u8], &[u8])>
     ensures { MatchOption result
         (IsTrue (has mark text.now) → ⊥)
         (λ parts. IsTrue (has mark text.now)
@@ -135,18 +135,19 @@ fn is_run(text: &[u8]) -> bool
 }
 
 // Whether each byte is a digit.
-fn all_digits(text: &[u8]) -> bool
+pub(crate) fn all_digits(text: &[u8]) -> bool
     ensures { result ≡ list_all is_ascii_digit text.now }
 {
     text.iter().all(|byte| byte.is_ascii_digit())
 }
 
-// The value of a run of digits that isn't too long.
-fn value_of(digits: &[u8]) -> u64
-    requires run { IsNumeral 10 digits.now }
-    requires short { length digits.now ≤ 9 }
+// The value of at most 16 digits.
+pub(crate) fn value_of(digits: &[u8]) -> u64
+    requires digits { AllDigits 10 digits.now }
+    requires short { length digits.now ≤ 16 }
     ensures value { result ≡ digits_value 10 digits.now }
-    ensures small { result < 10 ^ 9 }
+    ensures small { result < 10 ^ 16 }
+    ensures smaller { length digits.now ≤ 9 → result < 10 ^ 9 }
 {
     let mut value = 0;
     for digit in digits {
@@ -156,7 +157,7 @@ fn value_of(digits: &[u8]) -> u64
 }
 
 // Ten to this power.
-fn power_of_ten(exponent: usize) -> u64
+pub(crate) fn power_of_ten(exponent: usize) -> u64
     requires { exponent ≤ 9 }
     ensures power { result ≡ 10 ^ exponent }
     ensures positive { 0 < result }

@@ -103,3 +103,40 @@ fn prints_durations(rt: HostRuntime) -> Result<(), NumFault> {
     }
     Ok(())
 }
+
+#[test]
+fn reads_durations(rt: HostRuntime) {
+    let table = [
+        ("1.5s", Ok(1_500_000_000)),
+        ("1h30m", Ok(5_400_000_000_000)),
+        ("1500", Ok(1_500_000_000)),
+        ("0.000001", Ok(1)),
+        ("30d", Ok(2_592_000_000_000_000)),
+        ("0", Ok(0)),
+        ("5.s.5s", Ok(5_500_000_000)),
+        ("3us", Ok(3_000)),
+        ("3\u{b5}s3\u{3bc}s", Ok(6_000)),
+        ("1d1h1m1s1ms1us1ns", Ok(90_061_001_001_001)),
+        ("", Err(NumFault::Empty)),
+        ("s", Err(NumFault::BadDigit)),
+        (".s", Err(NumFault::BadDigit)),
+        ("1.2.3s", Err(NumFault::BadDigit)),
+        ("1h30", Err(NumFault::BadDigit)),
+        ("-1s", Err(NumFault::BadDigit)),
+        ("5x", Err(NumFault::BadUnit)),
+        ("1 s", Err(NumFault::BadUnit)),
+        ("12345678901234567s5x", Err(NumFault::BadUnit)),
+        ("2592000001ms", Err(NumFault::TooLarge)),
+        ("30d0.1ns", Err(NumFault::TooLarge)),
+        ("0.0000000000s", Err(NumFault::TooLarge)),
+        (
+            "9999999999999999d9999999999999999d",
+            Err(NumFault::TooLarge),
+        ),
+        ("0.1ns", Err(NumFault::NotWhole)),
+        ("0.5ns0.5ns", Err(NumFault::NotWhole)),
+    ];
+    for (text, want) in &table {
+        assert!(rt; read_duration(text.as_bytes()) == *want, "of {text}");
+    }
+}
