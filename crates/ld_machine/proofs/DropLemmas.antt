@@ -1,5 +1,6 @@
 -- Legal histories drop and count late only what they may.
 use Rattle.std.proofs.Common.{◌≡◌, ◌<◌, ◌≤◌, ◌+◌, ◌==◌, ℕ, Bool, true, false, cond, ◌&&◌, nat_lt, List, [], ◌∷◌, Option, None, Some, find, map, arith, refl, sym, ap, ◌∙◌, subst, inl, inr, slice_get}
+use Rattle.std.proofs.lemmas.Bool.{true≢false}
 use Rattle.std.specs.Prelude.{is_some}
 use Rattle.std.specs.List.{list_all}
 use Rattle.std.specs.Option.{option_map_or}
@@ -18,7 +19,7 @@ use Rattle.ld_machine.specs.Step.{entries_of}
 use Rattle.ld_machine.specs.History.{adds_one, adds_two, are_steps}
 use Rattle.ld_machine.specs.OnTime.{is_asked_act}
 use Rattle.ld_machine.specs.Drops.{nobody_for_arrival, executor_drop_allowed, drop_or_late_allowed, drops_allowed_from}
-use Rattle.ld_machine.proofs.ListLemmas.{both_true, some_true}
+use Rattle.ld_machine.proofs.ListLemmas.{both_true, some_true, number_itself}
 use Rattle.ld_machine.proofs.SourceLemmas.{Source, by_stop, by_release, by_take, by_arrival, by_start, by_drop, by_close, source_of, late_answer, drop_answer, grow_answer}
 use Rattle.ld_machine.proofs.StepLemmas.{first_enabled, Wrote, one_wrote, pair_wrote}
 
@@ -29,19 +30,13 @@ acts_back at thread t (act ∷ rest) = ap (λ more. act ∷ more) (acts_back (at
 
 -- ---- an arrival that is due
 
-number_itself : (n : ℕ) → (n == n) ≡ true
-number_itself n = grind (arith, common_steps)
-
-true_not_false : true ≡ false → ⊥
-true_not_false e = cc
-
 -- numbers that a test tells apart aren't the same
 numbers_differ : (m n : ℕ) (p : ℕ → Bool) → p m ≡ false → p n ≡ true → (m == n) ≡ false
 numbers_differ m n p pm pn =
     let P : Bool → Type 0 = λ b. (m == n) ≡ b → (m == n) ≡ false in
     let tested : P (m == n) = elim (m == n) as P [
       | false ↦ λ e. e
-      | true ↦ λ e. let same : m ≡ n = grind (arith, common_steps) in absurd (true_not_false (sym pn ∙ ap p (sym same) ∙ pm))
+      | true ↦ λ e. let same : m ≡ n = grind (arith, common_steps) in absurd (true≢false (sym pn ∙ ap p (sym same) ∙ pm))
     ] in tested refl
 
 -- what a search finds passes its test

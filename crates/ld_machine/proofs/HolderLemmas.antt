@@ -1,5 +1,5 @@
 -- No user is held twice.
-use Rattle.std.proofs.Common.{◌≡◌, ◌<◌, ◌≤◌, ◌+◌, ◌==◌, if◌then◌else◌, ℕ, zero, suc, Bool, true, false, not, cond, ◌&&◌, ◌||◌, nat_lt, List, [], ◌∷◌, ◌++◌, Option, None, Some, map, filter, arith, refl, sym, ap, ◌∙◌, subst, inl, inr, ◌⊎◌, slice_get}
+use Rattle.std.proofs.Common.{◌≡◌, ◌<◌, ◌≤◌, ◌+◌, ◌==◌, if◌then◌else◌, ℕ, zero, suc, Bool, true, false, not, cond, ◌&&◌, ◌||◌, nat_lt, List, [], ◌∷◌, ◌++◌, Option, None, Some, map, filter, arith, refl, sym, ap, ◌∙◌, subst, inl, inr, slice_get}
 use Rattle.std.specs.Option.{option_map_or}
 use Rattle.std.specs.List.{list_any, range_with_len}
 use Rattle.std.proofs.lemmas.Grind.{common_steps}
@@ -16,8 +16,8 @@ use Rattle.ld_machine.specs.Commands.{stop_commanded_share}
 use Rattle.ld_machine.specs.Effect.{with_user, if_user, hold, put_condition, let_go, change_at, change_share, end_item, end_item_of, after_entry, after_entries}
 use Rattle.ld_machine.specs.History.{adds_one, adds_two, are_steps}
 use Rattle.ld_machine.specs.OnTime.{is_asked_act}
-use Rattle.ld_machine.proofs.ListLemmas.{In, here, there, nothing_in, In-filter, both_true, some_true}
-use Rattle.ld_machine.proofs.SourceLemmas.{Source, by_stop, by_release, by_take, by_arrival, by_start, by_drop, by_close, source_of, In-one, grow_answer, take_answer}
+use Rattle.ld_machine.proofs.ListLemmas.{In, here, there, nothing_in, In-filter, both_true, some_true, in_two, In-one}
+use Rattle.ld_machine.proofs.SourceLemmas.{Source, by_stop, by_release, by_take, by_arrival, by_start, by_drop, by_close, source_of, grow_answer, take_answer}
 use Rattle.ld_machine.proofs.StepLemmas.{Wrote, first_enabled, one_wrote, pair_wrote}
 use Rattle.ld_machine.proofs.DropLemmas.{acts_back, made_after, grows, second_starts}
 
@@ -178,10 +178,6 @@ grow_gains : (state : State) (k user slot : ℕ) → Holds state → user ≡ st
 grow_gains state k user slot holds next one h =
     let same : user ≡ one = cc in
     subst (λ u. (times_held u state.shares ≡ 0) × (u ≤ state.made + 1)) same (holds.unmade user (omega arith), omega arith)
-
-pub in_two : (x a b : Act) → In x (a ∷ b ∷ []) → (a ≡ x) ⊎ (b ≡ x)
-in_two x a b here = inl refl
-in_two x a b (there more) = inr (In-one x b more)
 
 -- an act of an enabled move gains only such a user
 move_gains : (plan : Plan) (state : State) (k : ℕ) (s : Scenario) (t : ℕ) (move : Move) → Holds state → Source (users_of plan state) k s t move →

@@ -1,5 +1,5 @@
 -- No item is started, dropped or counted late twice.
-use Rattle.std.proofs.Common.{◌≡◌, ◌+◌, ◌==◌, if◌then◌else◌, ℕ, zero, suc, Bool, true, false, not, cond, ◌&&◌, ◌||◌, List, [], ◌∷◌, ◌++◌, Option, None, Some, find, map, filter_map, arith, refl, sym, ap, ◌∙◌, subst, inl, inr, ◌⊎◌, slice_get}
+use Rattle.std.proofs.Common.{◌≡◌, ◌+◌, ◌==◌, if◌then◌else◌, ℕ, zero, suc, Bool, true, false, not, cond, ◌&&◌, ◌||◌, List, [], ◌∷◌, ◌++◌, Option, None, Some, find, map, filter_map, arith, refl, sym, ap, ◌∙◌, subst, inl, inr, slice_get}
 use Rattle.std.specs.Prelude.{option_map}
 use Rattle.std.specs.Option.{option_map_or}
 use Rattle.std.specs.List.{list_any, list_all, cons_option}
@@ -18,13 +18,10 @@ use Rattle.ld_machine.specs.Effect.{hold, put_condition, change_at, change_share
 use Rattle.ld_machine.specs.History.{adds_one, adds_two, are_steps}
 use Rattle.ld_machine.specs.OnTime.{is_asked_act}
 use Rattle.ld_machine.specs.Settled.{item_of, items_in, has_items, is_distinct}
-use Rattle.ld_machine.proofs.ListLemmas.{In, here, there, In-filter, any-from_In, both_true, some_true}
-use Rattle.ld_machine.proofs.SourceLemmas.{Source, by_stop, by_release, by_take, by_arrival, by_start, by_drop, by_close, source_of, In-one}
+use Rattle.ld_machine.proofs.ListLemmas.{In, here, there, In-filter, any-from_In, both_true, some_true, some_not_none, in_two, number_itself, In-one}
+use Rattle.ld_machine.proofs.SourceLemmas.{Source, by_stop, by_release, by_take, by_arrival, by_start, by_drop, by_close, source_of}
 use Rattle.ld_machine.proofs.DropLemmas.{due_tells, acts_back}
 use Rattle.ld_machine.proofs.StepLemmas.{Wrote, first_enabled, one_wrote, pair_wrote}
-
-some_not_none : {A : Type 0} {x : A} → Some x ≡ None → ⊥
-some_not_none e = cc
 
 -- the list has the number
 abbrev pub has : List ℕ → ℕ → Bool
@@ -120,11 +117,6 @@ chosen k n item i h =
       | true ↦ λ e same. (grind (arith, common_steps), cc)
       | false ↦ λ e same. absurd (cc)
     ] in told refl h
-
--- one of two
-in_two : {A : Type 0} (x a b : A) → In x (a ∷ b ∷ []) → (a ≡ x) ⊎ (b ≡ x)
-in_two x a b here = inl refl
-in_two x a b (there more) = inr (In-one x b more)
 
 -- an act without an item has none
 no_item : {B : Type 0} (n i : ℕ) (one act : Act) → one ≡ act → item_of n one ≡ None → item_of n act ≡ Some i → B
@@ -310,9 +302,6 @@ there_from : (shares : List Share) (n : ℕ) (share : Share) → slice_get share
 there_from [] n share h = absurd (cc)
 there_from (x ∷ rest) zero share h = refl
 there_from (x ∷ rest) (suc n) share h = there_from rest n share h
-
-number_itself : (n : ℕ) → (n == n) ≡ true
-number_itself n = grind (arith, common_steps)
 
 wrote_new : (plan : Plan) (part : Part) (state : State) (thread t : ℕ) (entries : List Entry) → Wrote plan state thread t entries →
     (n i : ℕ) (act : Act) → slice_get plan.parts n ≡ Some part → has_items part.executor ≡ true → In act (map (λ (e : Entry). e.act) entries) →

@@ -1,5 +1,5 @@
--- Elements of lists, and what tests, filters and maps make of them.
-use Rattle.std.proofs.Common.{Contains, ◌≡◌, ◌<◌, ◌+◌, ℕ, suc, zero, Bool, true, false, cond, ◌&&◌, ◌||◌, List, [], ◌∷◌, ◌++◌, ◌⊎◌, inl, inr, get_or, length, map, arith, refl, sym, subst, filter, flat_map, filter_map, Option, Some, None, slice_get}
+-- Elements of lists, what tests, filters and maps make of them, and facts of numbers and options.
+use Rattle.std.proofs.Common.{Contains, ◌≡◌, ◌==◌, ◌<◌, ◌+◌, ℕ, suc, zero, Bool, true, false, cond, ◌&&◌, ◌||◌, List, [], ◌∷◌, ◌++◌, ◌⊎◌, inl, inr, get_or, length, map, arith, refl, sym, subst, filter, flat_map, filter_map, Option, Some, None, slice_get}
 use Rattle.std.specs.List.{list_any, list_all, enumerate_from, cons_option}
 use Rattle.std.proofs.lemmas.Grind.{common_steps}
 
@@ -126,3 +126,18 @@ Contains-from_In x (there {y = y} {xs = xs} more) =
     let later = Contains-from_In x more in
     let below : later.0 < length xs = later.1 in
     (suc later.0, omega arith, later.2)
+
+-- an element of a list of one or two
+pub In-one : {A : Type 0} (x y : A) → In x (y ∷ []) → y ≡ x
+In-one x y here = refl
+In-one x y (there h) = absurd (nothing_in h)
+
+pub in_two : {A : Type 0} (x a b : A) → In x (a ∷ b ∷ []) → (a ≡ x) ⊎ (b ≡ x)
+in_two x a b here = inl refl
+in_two x a b (there more) = inr (In-one x b more)
+
+pub number_itself : (n : ℕ) → (n == n) ≡ true
+number_itself n = grind (arith, common_steps)
+
+pub some_not_none : {A : Type 0} {x : A} → Some x ≡ None → ⊥
+some_not_none e = cc

@@ -1,5 +1,6 @@
 -- The order of acts has first ones, and they have one place.
 use Rattle.std.proofs.Common.{◌≡◌, ◌≢◌, ℕ, Bool, true, false, not, ◌||◌, ◌==◌, if◌then◌else◌, ◌∙◌, List, [], ◌∷◌, length, arith, refl, sym, ap, subst}
+use Rattle.std.proofs.lemmas.Bool.{true≢false}
 use Rattle.std.specs.List.{list_any}
 use Rattle.std.proofs.Math.Decide.{dec_lt}
 use Rattle.std.proofs.lemmas.Grind.{common_steps}
@@ -79,9 +80,6 @@ pub one_place : (a b : Move) → is_before (place_of a) (place_of b) ≡ false �
     place_of a ≡ place_of b
 one_place a b = before_ranked (place_of a) (place_of b) (length-place_of a) (length-place_of b)
 
-true_not_false : true ≡ false → ⊥
-true_not_false e = cc
-
 -- some of these acts is before this one
 abbrev pub is_beaten : List Move → Move → Bool
 is_beaten moves m = list_any (λ other. is_before (place_of other) (place_of m)) moves
@@ -99,7 +97,7 @@ unbeaten_along x m moves before unbeaten_m =
           let z = In-from_any (λ other. is_before (place_of other) (place_of x)) moves e in
           let before_m = before_along (place_of z.0) (place_of x) (place_of m) z.2 before in
           let beaten_m : is_beaten moves m ≡ true = any-from_In (λ other. is_before (place_of other) (place_of m)) z.0 z.1 before_m in
-          absurd (true_not_false (sym beaten_m ∙ unbeaten_m))
+          absurd (true≢false (sym beaten_m ∙ unbeaten_m))
     ] in tested refl
 
 -- of acts of a list that isn't empty, one is beaten by none of them

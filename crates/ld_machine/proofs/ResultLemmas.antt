@@ -23,9 +23,8 @@ use Rattle.ld_machine.specs.Samples.{tally_fits}
 use Rattle.ld_machine.specs.Same.{same_entries}
 use Rattle.ld_machine.specs.History.{ask_for, results_for}
 use Rattle.ld_machine.specs.Step.{Result, answered, performed, move_result, open_results, is_out, outcome_of, return_of, check_reply, look_reply, control_result, results, IsStep}
-use Rattle.ld_machine.proofs.ListLemmas.{In, nothing_in, In-map, In-from_any, any-from_In, In-from_Contains, Contains-from_In}
+use Rattle.ld_machine.proofs.ListLemmas.{In, nothing_in, In-map, In-from_any, any-from_In, In-from_Contains, Contains-from_In, In-one}
 use Rattle.ld_machine.proofs.SameLemmas.{itself_entries, same_entries_tells}
-use Rattle.ld_machine.proofs.SourceLemmas.{In-one}
 
 -- the result's state is that behind its entries
 abbrev pub Leaves : Plan → State → Result → Type 0

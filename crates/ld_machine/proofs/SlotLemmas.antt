@@ -17,12 +17,12 @@ use Rattle.ld_machine.specs.Effect.{with_user, if_user, hold, put_condition, let
 use Rattle.ld_machine.specs.History.{adds_one, adds_two, are_steps}
 use Rattle.ld_machine.specs.OnTime.{is_asked_act}
 use Rattle.ld_machine.specs.Slots.{has_slots, times_slot}
-use Rattle.ld_machine.proofs.ListLemmas.{In, here, both_true, some_true}
-use Rattle.ld_machine.proofs.SourceLemmas.{Source, by_stop, by_release, by_take, by_arrival, by_start, by_drop, by_close, source_of, In-one}
+use Rattle.ld_machine.proofs.ListLemmas.{In, here, both_true, some_true, In-one, in_two}
+use Rattle.ld_machine.proofs.SourceLemmas.{Source, by_stop, by_release, by_take, by_arrival, by_start, by_drop, by_close, source_of}
 use Rattle.ld_machine.proofs.StepLemmas.{Wrote, first_enabled, one_wrote, pair_wrote}
 use Rattle.ld_machine.proofs.DropLemmas.{due_tells}
 use Rattle.ld_machine.proofs.ItemLemmas.{stands_share}
-use Rattle.ld_machine.proofs.HolderLemmas.{hit, or_parts, in_two}
+use Rattle.ld_machine.proofs.HolderLemmas.{hit, or_parts}
 use Rattle.ld_machine.proofs.TurnLemmas.{in_share, acts_written, pair_of}
 
 -- ---- what changes of shares do to a slot

@@ -6,7 +6,7 @@ use Rattle.ld_machine.specs.Plan.{Arrival, hard_moment, due_moment}
 use Rattle.ld_machine.specs.State.{HeldUser, idle_users, held_count}
 use Rattle.ld_machine.specs.Scenario.{Scenario, first_of, has_ended, may_hold_more, may_stop, may_release, slots_to_take, may_take, due_arrival, item_to_start, until_of, item_to_drop, may_close}
 use Rattle.ld_machine.specs.Moves.{Answer, CountLate, StartOn, GrowAndStart, TakeAndStart, DropArrival, Move, StopScenario, ReleaseUser, TakeUser, AnswerArrival, StartIteration, DropIteration, CloseScenario, Users, answers, stops, releases, takes, arrivals, answers_to, starts, start_on, drops, closes, moves_of}
-use Rattle.ld_machine.proofs.ListLemmas.{In, here, there, nothing_in, In-append, In-map, In-filter, In-flat_map, In-filter_map}
+use Rattle.ld_machine.proofs.ListLemmas.{In, nothing_in, In-append, In-map, In-filter, In-flat_map, In-filter_map, In-one}
 
 -- an act of scenario number n is enabled by this cell
 pub data Source (users : Users) (n : ℕ) (s : Scenario) (t : ℕ) : Move → Type 0 where
@@ -25,11 +25,6 @@ pub data Source (users : Users) (n : ℕ) (s : Scenario) (t : ℕ) : Move → Ty
 pub In-cond : {A : Type 0} (b : Bool) (x : A) (xs ys : List A) → In x (cond b xs ys) → ((b ≡ true) × In x xs) ⊎ ((b ≡ false) × In x ys)
 In-cond true x xs ys h = inl (refl, h)
 In-cond false x xs ys h = inr (refl, h)
-
--- an element of a list of one
-pub In-one : {A : Type 0} (x y : A) → In x (y ∷ []) → y ≡ x
-In-one x y here = refl
-In-one x y (there h) = absurd (nothing_in h)
 
 module _ (users : Users) (n : ℕ) (s : Scenario) (t : ℕ) where
   from_stops : (move : Move) → In move (stops n s t) → Source users n s t move

@@ -1,5 +1,6 @@
 -- Behind a commanded stop the pool only winds down.
-use Rattle.std.proofs.Common.{◌≡◌, ◌+◌, ℕ, zero, suc, Bool, true, false, not, cond, ◌&&◌, ◌||◌, List, [], ◌∷◌, None, Some, length, map, filter, arith, refl, sym, ap, ◌∙◌, subst, inl, inr, ◌++◌}
+use Rattle.std.proofs.Common.{◌≡◌, ◌+◌, ℕ, zero, suc, Bool, true, false, not, cond, ◌&&◌, ◌||◌, List, [], ◌∷◌, None, length, map, filter, arith, refl, sym, ap, ◌∙◌, subst, inl, inr, ◌++◌}
+use Rattle.std.proofs.lemmas.Bool.{true≢false}
 use Rattle.std.specs.List.{list_all}
 use Rattle.std.specs.Option.{option_map_or}
 use Rattle.std.specs.Prelude.{option_map, option_to_list}
@@ -19,7 +20,7 @@ use Rattle.ld_machine.specs.Step.{entries_of}
 use Rattle.ld_machine.specs.History.{adds_one, adds_two, are_steps}
 use Rattle.ld_machine.specs.OnTime.{is_asked_act}
 use Rattle.ld_machine.specs.Stops.{is_winding_down, all_winding_down, winds_down, commands_stop}
-use Rattle.ld_machine.proofs.ListLemmas.{In, here, there, nothing_in, In-append, In-map, In-filter, In-flat_map, In-filter_map, all_at, both_true, some_true}
+use Rattle.ld_machine.proofs.ListLemmas.{In, here, there, nothing_in, In-append, In-map, In-filter, In-flat_map, In-filter_map, all_at, both_true, some_true, some_not_none}
 use Rattle.ld_machine.proofs.StepLemmas.{EnabledAt, first_enabled, one_wrote, pair_wrote}
 
 -- a share that is closed, or isn't at level 0
@@ -64,12 +65,6 @@ no_drop (RampingVus _ _) s t h = refl
 no_drop (ArrivalRate _ _ _) s t h = refl
 no_drop (ExternallyControlled _ _ _) s t h = refl
 
-true_not_false : true ≡ false → ⊥
-true_not_false e = cc
-
-some_not_none : {A : Type 0} {x : A} → Some x ≡ None → ⊥
-some_not_none e = cc
-
 stop_quiet : (b : Bool) (n : ℕ) (move : Move) → In move (cond b (StopScenario n ∷ []) []) → is_quiet move ≡ true
 stop_quiet true n move here = refl
 stop_quiet true n move (there h) = absurd (nothing_in h)
@@ -99,7 +94,7 @@ quiet_where_stopped users n s t move h there_is =
               | inr at ↦
                   let found = In-flat_map (λ slot. map (λ user. TakeUser n user slot) users.free) move (filter (λ slot. may_take s slot t) (slots_to_take s.part.executor s)) at in
                   let kept = In-filter (λ slot. may_take s slot t) found.0 (slots_to_take s.part.executor s) found.1 in
-                  absurd (true_not_false (sym kept.1 ∙ no_take s.part.executor s found.0 t h))
+                  absurd (true≢false (sym kept.1 ∙ no_take s.part.executor s found.0 t h))
               | inl at2 ↦ elim (In-append move (stops n s t) (releases n s t) at2) [
                 | inr at ↦
                     let found = In-map (λ (u : HeldUser). ReleaseUser n u.user) move (filter (λ (u : HeldUser). may_release s u.slot t) (idle_users s.share)) at in

@@ -26,7 +26,7 @@ use Rattle.ld_machine.specs.Same.{same_entries}
 use Rattle.ld_machine.specs.Samples.{tally_fits}
 use Rattle.ld_machine.specs.Room.{script_room}
 use Rattle.ld_machine.specs.History.{until_in, is_done}
-use Rattle.ld_machine.proofs.ListLemmas.{In, here, there, In-filter, In-from_any, both_true, some_true}
+use Rattle.ld_machine.proofs.ListLemmas.{In, here, there, In-filter, In-from_any, both_true, some_true, number_itself}
 use Rattle.ld_machine.proofs.SourceLemmas.{Source, by_stop, by_release, by_take, by_arrival, by_start, by_drop, by_close, source_of, on_answer}
 use Rattle.ld_machine.proofs.StepLemmas.{Wrote, first_enabled, one_wrote, pair_wrote}
 use Rattle.ld_machine.proofs.DropLemmas.{acts_back}
@@ -409,9 +409,6 @@ pair_of plan state one two h =
     (acts_written plan state one.thread one.reading (one ∷ two ∷ []) w)
 
 -- ---- the next turn of a user that plays
-
-number_itself : (n : ℕ) → (n == n) ≡ true
-number_itself n = grind (arith, common_steps)
 
 idle_plays_nothing : (c : Condition) (item : ℕ) → is_idle_condition c ≡ true → plays_item item c ≡ true → ⊥
 idle_plays_nothing Idle item idle plays = cc

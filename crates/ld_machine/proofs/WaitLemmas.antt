@@ -21,9 +21,8 @@ use Rattle.ld_machine.specs.Room.{entries_with, samples_with, entries_refusal, s
 use Rattle.ld_machine.specs.Step.{Result, answered, performed, move_result, open_results, act_results}
 use Rattle.ld_machine.specs.Wait.{interval_moments, ramping_moments, level_moments, scenario_moments, untils, candidates, least_of, next_candidate, short_wait, is_external_open, wait_moment}
 use Rattle.ld_machine.specs.Rehearsal.{NothingEnabled}
-use Rattle.ld_machine.proofs.ListLemmas.{In, here, there, filter-In, In-enumerate, In-map}
+use Rattle.ld_machine.proofs.ListLemmas.{In, here, there, filter-In, In-enumerate, In-map, some_not_none, In-one, both_true}
 use Rattle.ld_machine.proofs.OrderLemmas.{none_first}
-use Rattle.ld_machine.proofs.SourceLemmas.{In-one}
 use Rattle.ld_machine.proofs.StopLemmas.{no_take, no_start, no_drop}
 
 -- the moments from t on to x pass none of these
@@ -152,15 +151,10 @@ level_is Runs h = refl
 level_is (StartsNothing q) h = absurd (cc)
 level_is Halted h = absurd (cc)
 
-both : (a b : Bool) → (a && b) ≡ true → (a ≡ true) × (b ≡ true)
-both true true h = (refl, refl)
-both true false h = absurd (cc)
-both false b h = absurd (cc)
-
 -- the moments of a scenario that runs
 running_moments : (s : Scenario) (t x : ℕ) → runs s ≡ true → Agree (scenario_moments s) t x → Agree (level_moments Runs s) t x
 running_moments s t x running agree =
-    let parts = both (is_open s) (level_runs s.share.level) running in
+    let parts = both_true (is_open s) (level_runs s.share.level) running in
     let opened : Agree (level_moments s.share.level s) t x =
     subst (λ b. Agree (cond b (level_moments s.share.level s) []) t x) parts.0 agree in
     subst (λ level. Agree (level_moments level s) t x) (level_is s.share.level parts.1) opened
@@ -353,9 +347,6 @@ no_wait_result plan state thread t move =
       | None ↦ λ e. no_wait_move move
       | Some reply ↦ λ e. no_wait_refusal plan state move reply e
     ] in none refl
-
-some_not_none : {A : Type 0} {x : A} → Some x ≡ None → ⊥
-some_not_none e = cc
 
 -- an open pool's wait is for the moment to wait for, where nothing is enabled
 open_waits : (plan : Plan) (state : State) (thread t m : ℕ) (moves : List Move) (r : Result) → In r (open_results plan state thread t moves) → wait_in r.reply ≡ Some m →
