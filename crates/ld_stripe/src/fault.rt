@@ -7,6 +7,12 @@ use thiserror::Error;
 /// Why weights have no striping here.
 #[derive(Debug, Drop, PartialEq, Eq, Error)]
 pub enum StripeFault {
+    /// There are no weights.
+    #[error("there are no weights")]
+    NoWeights,
+    /// There are more than 100 weights.
+    #[error("there are more than 100 weights")]
+    TooMany,
     /// The weight at this position, counted from 0, is zero. It is the first such position.
     #[error("the weight at position {0} is zero")]
     ZeroWeight(usize),

@@ -7,6 +7,9 @@ use crate::weights::{capped_sum, first_zero, in_lowest_terms};
 use std::alloc::{AllocError, Global};
 use std::marker::Model;
 
+/// The greatest number of weights, one for each segment of a test.
+const MOST_WEIGHTS: usize = 100;
+
 /// The greatest period that a striping may have, in indices.
 const GREATEST_PERIOD: u64 = 100_000;
 
@@ -35,19 +38,24 @@ impl Stripe {
     ghost use Rattle.ld_stripe.specs.StripeFault.{IsRefusal};
     ghost use Rattle.ld_stripe.specs.declared.fault.StripeFault.{StripeFault};
 
-    /// The striping of 1 to 100 weights, one for each position.
+    /// The striping of weights, one for each position.
     ///
     /// The weights are divided by their greatest common divisor, and their sum is then the period.
-    /// Refused are, in this order, a weight that is zero and a period of more than 100,000.
+    /// Refused are, in this order, no weights, more than 100 of them, a weight that is zero and a
+    /// period of more than 100,000.
     pub fn of_weights(alloc: Global, weights: &[u64]) -> Result<Stripe, StripeFault>
-        requires some { 0 < length weights.now }
-        requires few { length weights.now ≤ 100 }
         ensures striping { IfOk result (λ s. IsStripingOf weights.now s) }
         ensures positions { IfOk result (λ s. length s.weights ≡ length weights.now) }
         ensures weighted { IfOk result (λ s. All (λ w. 0 < w) s.weights) }
         ensures accepted { IfOk result (λ s. (f : StripeFault) → IsRefusal weights.now f → ⊥) }
         ensures refused { IfErr result (λ f. f ≢ StripeFault.Memory → IsRefusal weights.now f) }
     {
+        if weights.is_empty() {
+            return Err(StripeFault::NoWeights);
+        }
+        if weights.len() > MOST_WEIGHTS {
+            return Err(StripeFault::TooMany);
+        }
         if let Some(position) = first_zero(weights) {
             return Err(StripeFault::ZeroWeight(position));
         }

@@ -30,6 +30,10 @@ fn owners_follow_the_weights(rt: HostRuntime) -> Result<(), Fail> {
 #[test]
 fn weights_are_refused(rt: HostRuntime) {
     let alloc = rt.alloc();
+    assert!(rt; matches!(Stripe::of_weights(alloc, &[]), Err(StripeFault::NoWeights)));
+    let many = Stripe::of_weights(alloc, &[0; 101]);
+    assert!(rt; matches!(many, Err(StripeFault::TooMany)));
+    assert!(rt; Stripe::of_weights(alloc, &[1; 100]).is_ok());
     let zero = Stripe::of_weights(alloc, &[200_000, 0, 1, 0]);
     assert!(rt; matches!(zero, Err(StripeFault::ZeroWeight(1))));
     let long = Stripe::of_weights(alloc, &[200_000, 2]);

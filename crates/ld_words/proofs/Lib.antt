@@ -1,0 +1,6 @@
+pub mod FormLemmas
+pub mod NumberLemmas
+pub mod OptionLemmas
+pub mod OptionsLemmas
+pub mod ReadingLemmas
+pub mod WordsLemmas

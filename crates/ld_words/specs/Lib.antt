@@ -1,0 +1,4 @@
+pub mod Form
+pub mod Options
+pub mod OptionWords
+pub mod Words

@@ -1,0 +1,40 @@
+// Numbers among the words of a command line.
+ghost use Rattle.std.specs.Prelude.{◌≡◌, List, ℕ, map, slice_get, string_bytes};
+ghost use Rattle.std.specs.Char.{is_ascii_digit};
+ghost use Rattle.std.specs.List.{list_all};
+ghost use Rattle.std.specs.Option.{option_and_then};
+ghost use Rattle.ld_words.specs.Words.{is_number, number_of};
+
+/// The greatest number of digits of a number.
+const MOST_DIGITS: usize = 9;
+
+// The number that the word at a place is, if it is there and is one.
+pub fn number_at(words: &[String], place: usize) -> Option<u32>
+    ensures { result ≡ option_and_then number_of (slice_get (map string_bytes words.now) place) }
+{
+    read_number(words.get(place)?.as_str())
+}
+
+// The value of a word that is a number: one to nine decimal digits.
+pub fn read_number(word: &str) -> Option<u32>
+    ensures { result ≡ number_of word.now }
+{
+    if !is_number(word.as_bytes()) {
+        return None;
+    }
+    word.parse::<u32>().ok()
+}
+
+// Whether a text is one to nine decimal digits.
+fn is_number(text: &[u8]) -> bool
+    ensures { result ≡ is_number text.now }
+{
+    all_digits(text) && !text.is_empty() && text.len() <= MOST_DIGITS
+}
+
+// Whether each byte is a decimal digit.
+fn all_digits(text: &[u8]) -> bool
+    ensures { result ≡ list_all is_ascii_digit text.now }
+{
+    text.iter().all(|byte| byte.is_ascii_digit())
+}
