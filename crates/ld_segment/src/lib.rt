@@ -2,5 +2,7 @@
 #![tactic(auto)]
 
 mod fault;
+mod weights;
 
 pub use fault::SegmentFault;
+pub use weights::weights_of;
