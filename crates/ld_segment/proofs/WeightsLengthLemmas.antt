@@ -4,10 +4,11 @@ use Rattle.std.specs.Int.{◌∣◌, IsGcd}
 use Rattle.std.proofs.Math.Nat.{mul-div_cancel', mul-one, one-dvd, dvd-zero, dvd-mul_left, dvd-sub, eq_of_mul-eq-mul_left, mul-pos, mul-le-mul_right, mul-lt-mul_of_pos_left}
 use Rattle.std.proofs.Math.Decide.{dec_lt}
 use Rattle.std.proofs.lemmas.Nat.Gcd.{dvd_refl, IsGcd-from_mod, IsGcd-from_zero}
+use Rattle.ld_num.specs.Fraction.{HasNumbers}
 use Rattle.ld_num.specs.Terms.{AreCoprime}
 use Rattle.ld_num.specs.declared.fraction.Frac.{Frac}
 use Rattle.ld_num.proofs.LcmLemmas.{divides_times}
-use Rattle.ld_num.proofs.FractionLemmas.{quotient_positive, quotients_coprime, same_value}
+use Rattle.ld_num.proofs.FractionLemmas.{quotient_positive, quotients_coprime, same_denominator, same_numerator, same_value}
 use Rattle.ld_segment.specs.Points.{IsBelow}
 use Rattle.ld_segment.specs.Weights.{IsLength}
 
@@ -146,3 +147,22 @@ parts_rise m p q positive below of_p of_q =
           mul-le-mul_right between.0.den (let le : parts m q ≤ parts m p = omega arith in le) in
           absurd (omega arith)
     ]
+
+-- two points have one length
+pub length_unique : (p q a b : Frac) → IsLength p q a → IsLength p q b → HasNumbers a b.num b.den
+length_unique p q a b one other = record {
+  num_is = same_numerator a.num a.den b.num b.den a.positive b.positive a.lowest b.lowest same;
+  den_is = same_denominator a.num a.den b.num b.den a.positive b.positive a.lowest b.lowest same;
+}
+  where
+    scaled : (pn pd qn qd an ad bn bd : ℕ) → (pn * ad + an * pd) * qd ≡ qn * (pd * ad) →
+        (pn * bd + bn * pd) * qd ≡ qn * (pd * bd) → pd * qd * (an * bd) ≡ pd * qd * (bn * ad)
+    scaled pn pd qn qd an ad bn bd one other =
+        let left : (pn * ad + an * pd) * qd * bd ≡ qn * (pd * ad) * bd = ap (λ n. n * bd) one in
+        let right : (pn * bd + bn * pd) * qd * ad ≡ qn * (pd * bd) * ad = ap (λ n. n * ad) other in
+        omega arith
+
+    same : a.num * b.den ≡ b.num * a.den
+    same =
+        eq_of_mul-eq-mul_left (p.den * q.den) (mul-pos p.positive q.positive) (a.num * b.den) (b.num * a.den)
+        (scaled p.num p.den q.num q.den a.num a.den b.num b.den one other)

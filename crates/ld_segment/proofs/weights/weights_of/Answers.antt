@@ -1,5 +1,5 @@
-use Rattle.std.proofs.Common.{arith, subst, sym}
-use Rattle.ld_segment.specs.Weights.{HasWeights}
+use Rattle.std.proofs.Common.{◌≤◌, arith, subst, sym}
+use Rattle.ld_segment.specs.Weights.{HasWeights, greatest_period}
 use Rattle.ld_segment.proofs.WeightsFaultLemmas.{not_refused}
 use Rattle.ld_segment.proofs.WeightsLemmas.{weights_length, weights_lowest, weights_positive, weights_sum}
 use Rattle.ld_segment.proofs.weights.weights_of.Goals as goal
@@ -12,7 +12,6 @@ returns-clause-weights c =
 pub returns-clause-small : goal.returns-clause-small
 returns-clause-small c =
     let total = weights_sum _ _ _ c.requires.filled c.in_ok-weights_at.ensures in
-    let small = c.if-period-gt-GREATEST_PERIOD.false in
     omega arith
 
 pub returns-clause-positions : goal.returns-clause-positions
@@ -26,4 +25,5 @@ returns-clause-lowest c = weights_lowest _ _ _ c.requires.filled c.in_ok-weights
 
 pub returns-clause-accepted : goal.returns-clause-accepted
 returns-clause-accepted c =
-    not_refused _ _ c.requires.filled c.in_ok-weights_at.ensures.has_period c.if-period-gt-GREATEST_PERIOD.false
+    let small : c.capped_period-period.result ≤ greatest_period = omega arith in
+    not_refused _ _ c.requires.filled c.in_ok-weights_at.ensures.has_period small
