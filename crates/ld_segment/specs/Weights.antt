@@ -10,7 +10,7 @@ use Rattle.ld_segment.specs.declared.fault.SegmentFault.TheVariants.{Number, Bel
 abbrev pub greatest_period : ℕ
 greatest_period = 100000
 
--- the length of the position between two points: the one point and the length make the other
+-- the length of the position between two points is their difference: from and the length make to
 abbrev pub IsLength : Frac → Frac → Frac → Type 0
 IsLength from to span =
     (from.num * span.den + span.num * from.den) * to.den ≡ to.num * (from.den * span.den)
