@@ -1,0 +1,4 @@
+pub mod WeightsLengthLemmas
+pub mod WeightsPeriodLemmas
+pub mod WeightsLemmas
+pub mod WeightsFaultLemmas
