@@ -1,1 +1,5 @@
 pub mod Points
+pub mod Segments
+pub mod Values
+pub mod Refusal
+pub mod Printed

@@ -2,5 +2,17 @@
 #![tactic(auto)]
 
 mod fault;
+mod filling;
+mod parts;
+mod points;
+mod print;
+mod segment;
+mod sequence;
+mod value;
 
 pub use fault::SegmentFault;
+pub use segment::Segment;
+pub use sequence::Sequence;
+
+#[cfg(test)]
+mod tests;
