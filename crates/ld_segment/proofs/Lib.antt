@@ -1,1 +1,7 @@
 pub mod PointLemmas
+pub mod RiseLemmas
+pub mod FillingLemmas
+pub mod ValueLemmas
+pub mod PartLemmas
+pub mod RefusalLemmas
+pub mod PrintLemmas

@@ -1,5 +1,5 @@
 -- How segments and sequences are printed.
-use Rattle.std.specs.Prelude.{◌≡◌, ◌==◌, ℕ, List, ◌∷◌, ◌++◌, decimal, map, if◌then◌else◌}
+use Rattle.std.specs.Prelude.{◌≡◌, ◌==◌, Bool, ℕ, List, ◌∷◌, ◌++◌, decimal, map, if◌then◌else◌}
 use Rattle.std.specs.List.{join_with_byte}
 use Rattle.ld_num.specs.Written.{stroke}
 use Rattle.ld_num.specs.declared.fraction.Frac.{Frac}
@@ -16,6 +16,10 @@ segment_text from to = point_text from ++ colon ∷ point_text to
 -- the points of a sequence, joined by commas
 abbrev pub sequence_text : List Frac → List ℕ
 sequence_text points = join_with_byte comma (map point_text points)
+
+-- a point behind a comma, where it follows another
+abbrev pub next_text : Bool → Frac → List ℕ
+next_text follows p = if follows then comma ∷ point_text p else point_text p
 
 -- there is nothing else than more behind it
 abbrev pub Grows : List ℕ → List ℕ → Type 0

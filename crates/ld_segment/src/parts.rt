@@ -1,12 +1,9 @@
 // Segments that are put together.
-ghost use Rattle.std.specs.Prelude.{◌≡◌, [], ◌∷◌, ◌++◌, IfNone, IfOk, IfSome, map};
-ghost use Rattle.ld_num.specs.declared.fraction.Frac.{Frac};
-ghost use Rattle.ld_segment.specs.Points.{IsFilled};
-ghost use Rattle.ld_segment.specs.Segments.{filled};
-ghost use Rattle.ld_segment.specs.Refusal.{EndsAt, Meet};
+ghost use Rattle.std.specs.Prelude.{◌≡◌, ◌↔◌, ◌∷◌, IfNone, IfOk, IfSome, IsTrue, map};
+ghost use Rattle.ld_segment.specs.Refusal.{ends, EndsAt, Meet};
 ghost use Rattle.ld_segment.specs.declared.segment.Segment.{Segment};
 
-use crate::filling::fill_points;
+use crate::points::are_same;
 use crate::segment::Segment;
 use ld_num::Frac;
 use std::alloc::{AllocError, Global};
@@ -17,11 +14,25 @@ pub fn first_gap(parts: &[Segment]) -> Option<usize>
     ensures none { IfNone result (Meet parts.now) }
 {
     for place in 1..parts.len() {
-        if parts[place - 1].to != parts[place].from {
+        if !meet(&parts[place - 1], &parts[place]) {
             return Some(place);
         }
     }
     None
+}
+
+// Whether a segment begins where the one before it ends.
+fn meet(before: &Segment, behind: &Segment) -> bool
+    ensures { IsTrue result ↔ (before.now.to ≡ behind.now.from) }
+{
+    are_same(&before.to, &behind.from)
+}
+
+// Whether two segments begin and end at the same points.
+pub fn are_equal(left: &Segment, right: &Segment) -> bool
+    ensures { IsTrue result ↔ (ends left.now ≡ ends right.now) }
+{
+    are_same(&left.from, &right.from) && are_same(&left.to, &right.to)
 }
 
 // A point, and the ends of the segments behind it.

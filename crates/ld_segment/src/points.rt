@@ -54,3 +54,10 @@ fn is_below(left: &Frac, right: &Frac) -> bool
 {
     left.compare(right) == Ordering::Less
 }
+
+// Whether two points are the same.
+pub fn are_same(left: &Frac, right: &Frac) -> bool
+    ensures { IsTrue result ↔ (left.now ≡ right.now) }
+{
+    left.num == right.num && left.den == right.den
+}

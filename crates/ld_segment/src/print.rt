@@ -1,7 +1,7 @@
 // How points are printed.
 ghost use Rattle.std.specs.Prelude.{◌≡◌, ◌++◌, ◌∷◌, ℕ, List, OnErr, OnOk, decimal};
 ghost use Rattle.ld_num.specs.declared.fraction.Frac.{Frac};
-ghost use Rattle.ld_segment.specs.Printed.{point_text, segment_text, sequence_text, Grows};
+ghost use Rattle.ld_segment.specs.Printed.{next_text, point_text, segment_text, sequence_text, Grows};
 
 use itoa::Buffer;
 use ld_num::Frac;
@@ -23,12 +23,20 @@ pub fn put_points(points: &[Frac], into: &mut Vec<u8>) -> Result<(), AllocError>
     ensures err { OnErr result (Grows into.old.items into.new.items) }
 {
     for (place, point) in points.iter().enumerate() {
-        if place > 0 {
-            into.push(b',')?;
-        }
-        put_point(point, into)?;
+        put_next(point, place > 0, into)?;
     }
     Ok(())
+}
+
+// Appends a point, behind a comma where it follows another.
+fn put_next(point: &Frac, follows: bool, into: &mut Vec<u8>) -> Result<(), AllocError>
+    ensures ok { OnOk result (into.new.items ≡ into.old.items ++ next_text follows point.now) }
+    ensures err { OnErr result (Grows into.old.items into.new.items) }
+{
+    if follows {
+        into.push(b',')?;
+    }
+    put_point(point, into)
 }
 
 // Appends a point: `0`, `1`, or a quotient in lowest terms.

@@ -1,6 +1,6 @@
 use crate::fault::SegmentFault;
 use crate::filling::{fill_points, filled_len};
-use crate::parts::{first_gap, points_of};
+use crate::parts::{are_equal, first_gap, points_of};
 use crate::points::check_points;
 use crate::print::put_points;
 use crate::segment::Segment;
@@ -35,7 +35,7 @@ impl Sequence {
     ghost use Rattle.std.specs.Prelude.{◌≡◌, ◌≢◌, ◌<◌, ◌++◌, [], ◌∷◌, ℕ, List, Some, IfErr, IfOk, MatchOption, OnErr, OnOk, length, map, slice_get};
     ghost use Rattle.ld_num.specs.declared.fraction.Frac.{Frac};
     ghost use Rattle.ld_segment.specs.Points.{IsFilled};
-    ghost use Rattle.ld_segment.specs.Segments.{filled, given_points, segments_of};
+    ghost use Rattle.ld_segment.specs.Segments.{filled, given_points, segments_of, IsSequence};
     ghost use Rattle.ld_segment.specs.Values.{sequence_values, ArePoints};
     ghost use Rattle.ld_segment.specs.Refusal.{ends, IsPartsRefusal, IsSequenceRefusal, RefusesSequence};
     ghost use Rattle.ld_segment.specs.Printed.{sequence_text};
@@ -60,6 +60,7 @@ impl Sequence {
     // The sequence of points.
     fn of_points(points: Vec<Frac>) -> Result<Sequence, SegmentFault>
         ensures value { IfOk result (λ s. s ≡ points.items) }
+        ensures sequence { IfOk result IsSequence }
         ensures refused { IfErr result (RefusesSequence points.items) }
     {
         if points.len() < 2 {
@@ -120,7 +121,7 @@ impl Sequence {
             (λ k. slice_get (segments_of self.now) k ≡ Some (ends segment.now)) }
     {
         for position in 0..self.len() {
-            if self.segment(position) == *segment {
+            if are_equal(&self.segment(position), segment) {
                 return Some(position);
             }
         }

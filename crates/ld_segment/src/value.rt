@@ -1,8 +1,9 @@
 // The values in a text.
-ghost use Rattle.std.specs.Prelude.{◌≡◌, ◌≢◌, ◌↔◌, [], ◌∷◌, IfOk, IfErr, IsTrue, map};
+ghost use Rattle.std.specs.Prelude.{◌≡◌, ◌≢◌, ◌==◌, ◌↔◌, [], ◌∷◌, ℕ, List, IfErr, IfOk, IsTrue, MatchOption, map, position};
 ghost use Rattle.std.specs.Borrow.{Bor};
-ghost use Rattle.std.specs.Prelude.{ℕ, List};
-ghost use Rattle.ld_segment.specs.Values.{segment_values, sequence_values, ArePoints, IsPoint, IsSigned};
+ghost use Rattle.std.specs.List.{after_first, before_first};
+ghost use Rattle.ld_num.specs.Shape.{has};
+ghost use Rattle.ld_segment.specs.Values.{colon, segment_values, sequence_values, ArePoints, IsPoint, IsSigned};
 ghost use Rattle.ld_segment.specs.Refusal.{RefusesFirst, RefusesValue};
 ghost use Rattle.ld_segment.specs.declared.fault.SegmentFault.{SegmentFault};
 
@@ -53,10 +54,29 @@ pub fn read_values(alloc: Global, values: &[&[u8]]) -> Result<Vec<Frac>, Segment
 pub fn halves<'a>(text: &'a [u8]) -> (&'a [u8], &'a [u8])
     ensures { segment_values text.now ≡ result.0.now ∷ result.1.now ∷ [] }
 {
-    match text.iter().position(|byte| *byte == b':') {
-        Some(place) => (&text[..place], &text[place + 1..]),
+    match around_colon(text) {
+        Some(halves) => halves,
         None => (b"0", text),
     }
+}
+
+// What stands before and behind the first colon, if there is one.
+fn around_colon(text: &[u8]) -> Option<(&[u8], &[u8])>
+    ensures { MatchOption result
+        (IsTrue (has colon text.now) → ⊥)
+        (λ halves. IsTrue (has colon text.now)
+        × (halves.0.now ≡ before_first (λ b. b == colon) text.now)
+        × (halves.1.now ≡ after_first (λ b. b == colon) text.now)) }
+{
+    let place = first_colon(text)?;
+    Some((&text[..place], &text[place + 1..]))
+}
+
+// The place of the first colon.
+fn first_colon(text: &[u8]) -> Option<usize>
+    ensures { result ≡ position (λ b. b == colon) text.now }
+{
+    text.iter().position(|byte| *byte == b':')
 }
 
 // The values of a sequence.
