@@ -2,7 +2,10 @@
 use Rattle.std.proofs.Common.{◌≡◌, ◌<◌, ◌≤◌, ◌+◌, ◌-◌, ◌*◌, ◌∙◌, ◌∷◌, ◌++◌, [], ℕ, zero, suc, List, Bool, true, false, length, get_or, take, arith, ap, ap₂, sym, subst, refl, nat_eq, length-append, append_assoc, append-nil}
 use Rattle.std.specs.Prelude.{Some, not, slice_get, if◌then◌else◌}
 use Rattle.std.specs.List.{AllByRecursion}
+use Rattle.std.proofs.Math.Decide.{dec_lt}
+use Rattle.std.proofs.Math.Nat.{lt_of_mul-lt-mul_right, mul-lt-mul_of_pos_right}
 use Rattle.std.proofs.lemmas.Bool.Decides.{nat_tests}
+use Rattle.std.proofs.lemmas.Option.{slice_get_within}
 use Rattle.ld_num.specs.declared.fraction.Frac.{Frac}
 use Rattle.ld_segment.specs.Points.{IsAtMostOne, IsBelow, IsFilled, IsZero, IsOne, Rise, BeginsAtZero, EndsAtOne}
 use Rattle.ld_segment.specs.Segments.{filled, lacking_behind, lacking_front, most_segments, one_point, segments_of, zero_point, IsSequence}
@@ -118,6 +121,7 @@ filled_is (p ∷ ps) some rise all =
   where
     first_rises : (p : Frac) (ps : List Frac) → Rise ((p ∷ ps) ++ lacking_behind (p ∷ ps)) → Rise (p ∷ (ps ++ lacking_behind (p ∷ ps)))
     first_rises p ps rise = rise
+
     first_ends : (p : Frac) (ps : List Frac) → EndsAtOne ((p ∷ ps) ++ lacking_behind (p ∷ ps)) → EndsAtOne (p ∷ (ps ++ lacking_behind (p ∷ ps)))
     first_ends p ps ends = ends
 
@@ -178,41 +182,35 @@ length_filled ps front behind front_is behind_is =
     of_front : (b : Bool) → length (if b then zero_point ∷ [] else []) ≡ one_if b
     of_front true = refl
     of_front false = refl
+
     of_behind : (b : Bool) → length (if b then one_point ∷ [] else []) ≡ one_if b
     of_behind true = refl
     of_behind false = refl
 
-pub few_from_length : (ps : List Frac) → length (filled ps) ≤ 101 → length (segments_of (filled ps)) ≤ most_segments
-few_from_length ps short = let long = length_segments (filled ps) in omega arith
-
-pub many_from_length : (ps : List Frac) → 101 < length (filled ps) → most_segments < length (segments_of (filled ps))
-many_from_length ps longer = let long = length_segments (filled ps) in omega arith
-
--- one or two points, filled, are few
-pub filled_short : (ps : List Frac) → length ps ≤ 2 → length (segments_of (filled ps)) ≤ most_segments
-filled_short ps short =
-    let outer = length-append (lacking_front ps ++ ps) (lacking_behind ps) in
-    let inner = length-append (lacking_front ps) ps in
+-- points that were counted when they are filled are few or many
+pub few_counted : (ps shown : List Frac) (count : ℕ) → shown ≡ ps → count ≡ length (filled shown) → count ≤ 101 →
+    length (segments_of (filled ps)) ≤ most_segments
+few_counted ps shown count same is short =
     let long = length_segments (filled ps) in
-    let front = front_short ps in
-    let behind = behind_short ps in
+    let as_long = ap (λ qs. length (filled qs)) same in
     omega arith
-  where
-    front_short : (ps : List Frac) → length (lacking_front ps) ≤ 1
-    front_short [] = omega arith
-    front_short (p ∷ ps) = decided (nat_eq p.num 0) refl
-      where
-        decided : (b : Bool) → nat_eq p.num 0 ≡ b → length (lacking_front (p ∷ ps)) ≤ 1
-        decided true is = rw is (omega arith)
-        decided false is = rw is (omega arith)
-    behind_short : (ps : List Frac) → length (lacking_behind ps) ≤ 1
-    behind_short [] = omega arith
-    behind_short (p ∷ []) = decided (nat_eq p.num p.den) refl
-      where
-        decided : (b : Bool) → nat_eq p.num p.den ≡ b → length (lacking_behind (p ∷ [])) ≤ 1
-        decided true is = rw is (omega arith)
-        decided false is = rw is (omega arith)
-    behind_short (p ∷ q ∷ ps) = behind_short (q ∷ ps)
+
+pub many_counted : (ps shown : List Frac) (count : ℕ) → shown ≡ ps → count ≡ length (filled shown) → 101 < count →
+    most_segments < length (segments_of (filled ps))
+many_counted ps shown count same is longer =
+    let long = length_segments (filled ps) in
+    let as_long = ap (λ qs. length (filled qs)) same in
+    omega arith
+
+-- points that were looked at are a sequence
+pub sequence_seen : (ps shown : List Frac) → shown ≡ ps → 2 ≤ length ps → Rise shown → AreAtMostOne shown →
+    length (segments_of (filled ps)) ≤ most_segments → IsSequence ps
+sequence_seen ps shown same some rise all few = record {
+  some = some;
+  rises = subst Rise same rise;
+  at_most_one = subst AreAtMostOne same all;
+  few = few;
+}
 
 -- the last point decides what is lacking behind
 last_at : (ps : List Frac) (i : ℕ) (d : Frac) → suc i ≡ length ps →
@@ -261,3 +259,115 @@ pub segment_within : (ps qs : List Frac) (i : ℕ) (q : Frac) → ps ≡ qs → 
 segment_within ps qs i q same below all q_is =
     subst (λ (y : Frac). IsAtMostOne y) (sym q_is)
     (all_at IsAtMostOne ps (i + 1) q (let there = below_points ps qs i same below in omega arith) all)
+
+-- a segment that stands at a position lies between two points
+some_is : (p q : Frac × Frac) → Some p ≡ Some q → p ≡ q
+some_is p q same = cc
+
+pub record Between (ps : List Frac) (k : ℕ) (s : Frac × Frac) : Type 0 where
+  pub below : suc k < length ps
+  pub begins : get_or ps k zero_point ≡ s.0
+  pub ends : get_or ps (suc k) zero_point ≡ s.1
+
+between : (ps : List Frac) (k : ℕ) (s : Frac × Frac) → slice_get (segments_of ps) k ≡ Some s → Between ps k s
+between ps k s is =
+    let within = slice_get_within (segments_of ps) k s is in
+    let long = length_segments ps in
+    let below : suc k < length ps = omega arith in
+    let same = some_is (get_or ps k zero_point, get_or ps (suc k) zero_point) s (sym (segment_at ps k zero_point zero_point below) ∙ is) in
+    record {
+      below = below;
+      begins = ap (λ (pair : Frac × Frac). pair.0) same;
+      ends = ap (λ (pair : Frac × Frac). pair.1) same;
+    }
+
+pub segments_meet : (ps : List Frac) (k : ℕ) (s t : Frac × Frac) → slice_get (segments_of ps) k ≡ Some s →
+    slice_get (segments_of ps) (k + 1) ≡ Some t → t.0 ≡ s.1
+segments_meet ps k s t at_k at_next =
+    sym (between ps (k + 1) t at_next).begins
+    ∙ ap (λ n. get_or ps n zero_point) (let e : k + 1 ≡ suc k = omega arith in e)
+    ∙ (between ps k s at_k).ends
+
+pub segments_rise : (ps : List Frac) (k : ℕ) (s : Frac × Frac) → IsSequence ps → slice_get (segments_of ps) k ≡ Some s →
+    IsBelow s.0 s.1 × IsAtMostOne s.1
+segments_rise ps k s is at_k =
+    let here = between ps k s at_k in (
+      subst (λ (p : Frac). IsBelow p s.1) here.begins
+          (subst (λ (q : Frac). IsBelow (get_or ps k zero_point) q) here.ends (rise_at ps k zero_point zero_point here.below is.rises)),
+      subst (λ (q : Frac). IsAtMostOne q) here.ends (all_at IsAtMostOne ps (suc k) zero_point here.below is.at_most_one),
+    )
+
+-- points that rise are apart
+below_later : (p q r : Frac) → IsBelow p q → IsBelow q r → IsBelow p r
+below_later p q r pq qr =
+    let r_some : 0 < r.den = (let some = r.positive in omega arith) in
+    let p_some : 0 < p.den = (let some = p.positive in omega arith) in
+    let left : p.num * q.den * r.den < q.num * p.den * r.den = mul-lt-mul_of_pos_right pq r_some in
+    let right : q.num * r.den * p.den < r.num * q.den * p.den = mul-lt-mul_of_pos_right qr p_some in
+    let both : p.num * r.den * q.den < r.num * p.den * q.den = omega arith in
+    lt_of_mul-lt-mul_right q.den both
+
+below_all : (p : Frac) (ps : List Frac) → Rise (p ∷ ps) → (k : ℕ) (d : Frac) → k < length ps → IsBelow p (get_or ps k d)
+below_all p [] rise k d below = absurd (omega arith)
+below_all p (q ∷ ps) rise zero d below = rise.0
+below_all p (q ∷ ps) rise (suc k) d below =
+    below_later p q (get_or ps k d) rise.0 (below_all q ps rise.1 k d (omega arith))
+
+apart : (ps : List Frac) (j k : ℕ) (d : Frac) → Rise ps → j < k → k < length ps → IsBelow (get_or ps j d) (get_or ps k d)
+apart [] j k d rise before below = absurd (omega arith)
+apart (p ∷ ps) j zero d rise before below = absurd (omega arith)
+apart (p ∷ ps) zero (suc k) d rise before below = below_all p ps rise k d (omega arith)
+apart (p ∷ []) (suc j) (suc k) d rise before below = absurd (omega arith)
+apart (p ∷ q ∷ ps) (suc j) (suc k) d rise before below = apart (q ∷ ps) j k d rise.1 (omega arith) (omega arith)
+
+not_below : (p q : Frac) → p ≡ q → IsBelow p q → ⊥
+not_below p q same below =
+    let num = ap (λ (x : Frac). x.num) same in
+    let den = ap (λ (x : Frac). x.den) same in
+    let equal : p.num * q.den ≡ q.num * p.den = rw (num, den) in
+    omega arith
+
+pub one_position : (ps : List Frac) (j k : ℕ) (s : Frac × Frac) → IsSequence ps → slice_get (segments_of ps) j ≡ Some s →
+    slice_get (segments_of ps) k ≡ Some s → j ≡ k
+one_position ps j k s is at_j at_k =
+    let left = between ps j s at_j in
+    let right = between ps k s at_k in
+    let same : get_or ps j zero_point ≡ get_or ps k zero_point = left.begins ∙ sym right.begins in
+    let left_below = left.below in
+    let right_below = right.below in
+    elim (dec_lt j k) [
+      | yes before ↦ absurd (not_below _ _ same (apart ps j k zero_point is.rises before (omega arith)))
+      | no not_before ↦
+          elim (dec_lt k j) [
+            | yes behind ↦ absurd (not_below _ _ (sym same) (apart ps k j zero_point is.rises behind (omega arith)))
+            | no not_behind ↦ omega arith
+          ]
+    ]
+
+-- at most one point is lacking at each side
+pub front_short : (ps : List Frac) → length (lacking_front ps) ≤ 1
+front_short [] = omega arith
+front_short (p ∷ ps) = decided (nat_eq p.num 0) refl
+  where
+    decided : (b : Bool) → nat_eq p.num 0 ≡ b → length (lacking_front (p ∷ ps)) ≤ 1
+    decided true is = rw is (omega arith)
+    decided false is = rw is (omega arith)
+
+pub behind_short : (ps : List Frac) → length (lacking_behind ps) ≤ 1
+behind_short [] = omega arith
+behind_short (p ∷ []) = decided (nat_eq p.num p.den) refl
+  where
+    decided : (b : Bool) → nat_eq p.num p.den ≡ b → length (lacking_behind (p ∷ [])) ≤ 1
+    decided true is = rw is (omega arith)
+    decided false is = rw is (omega arith)
+behind_short (p ∷ q ∷ ps) = behind_short (q ∷ ps)
+
+-- one or two points, filled, are few
+pub filled_short : (ps : List Frac) → length ps ≤ 2 → length (segments_of (filled ps)) ≤ most_segments
+filled_short ps short =
+    let outer = length-append (lacking_front ps ++ ps) (lacking_behind ps) in
+    let inner = length-append (lacking_front ps) ps in
+    let long = length_segments (filled ps) in
+    let front = front_short ps in
+    let behind = behind_short ps in
+    omega arith

@@ -5,3 +5,4 @@ pub mod ValueLemmas
 pub mod PartLemmas
 pub mod RefusalLemmas
 pub mod PrintLemmas
+pub mod ReadBackLemmas

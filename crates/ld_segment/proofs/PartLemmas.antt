@@ -4,7 +4,7 @@ use Rattle.std.specs.List.{AllByRecursion}
 use Rattle.std.proofs.Math.Nat.{lt_of_mul-lt-mul_right, mul-le-mul_left}
 use Rattle.ld_num.specs.declared.fraction.Frac.{Frac}
 use Rattle.ld_segment.specs.Points.{IsAtMostOne, IsBelow, Rise}
-use Rattle.ld_segment.specs.Segments.{segments_of, IsSequence}
+use Rattle.ld_segment.specs.Segments.{filled, most_segments, segments_of, IsSequence}
 use Rattle.ld_segment.specs.Refusal.{AreAtMostOne, Meet, ends}
 use Rattle.ld_segment.proofs.FillingLemmas.{filled_short}
 use Rattle.ld_segment.specs.declared.segment.Segment.{Segment}
@@ -57,7 +57,15 @@ put_together (t ∷ rest) s points some is meet are =
       within = within_put_together t (t ∷ rest);
     })
 
--- segments have one list of points
+pub parts_sequence : (parts : List Segment) (points : List Frac) → PutTogether parts points →
+    length (segments_of (filled points)) ≤ most_segments → IsSequence points
+parts_sequence parts points known few = record {
+  some = known.some;
+  rises = known.rises;
+  at_most_one = known.within;
+  few = few;
+}
+
 one_tail : (p : Frac) (ps : List Frac) (q : Frac) (qs : List Frac) → p ≡ q → segments_of (p ∷ ps) ≡ segments_of (q ∷ qs) →
     ◌≡◌ {A = List Frac} (p ∷ ps) (q ∷ qs)
 one_tail p [] q [] head same = ap (λ (x : Frac). x ∷ []) head

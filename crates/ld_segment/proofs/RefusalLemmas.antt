@@ -9,6 +9,7 @@ use Rattle.ld_segment.specs.Refusal.{AreAtMostOne, Meet, HaveTooMany, IsPartsRef
 use Rattle.ld_segment.specs.declared.segment.Segment.{Segment}
 use Rattle.ld_segment.specs.declared.fault.SegmentFault.{SegmentFault}
 use Rattle.ld_segment.specs.declared.fault.SegmentFault.TheVariants.{Number, BelowZero, NotLess, AboveOne, Gap, FewPoints, PeriodTooLarge, TooMany, Memory}
+use Rattle.ld_segment.proofs.FillingLemmas.{length_segments}
 use Rattle.ld_segment.proofs.RiseLemmas.{meet_front, points_not_refused}
 use Rattle.ld_segment.proofs.ValueLemmas.{first_not_refused, one_list_of_points}
 use Rattle.ld_segment.proofs.PartLemmas.{one_list}
@@ -39,18 +40,21 @@ sequence_accepted text ps are is f (inr refused) =
     (subst (λ qs. RefusesSequence qs f) (one_list_of_points (sequence_values text) refused.0 ps refused.1 are) refused.2)
 
 pub parts_accepted : (parts : List Segment) (ps : List Frac) → parts ≢ [] → Meet parts → segments_of ps ≡ map ends parts →
-    0 < length (segments_of ps) → length (segments_of (filled ps)) ≤ most_segments → (f : SegmentFault) → IsPartsRefusal parts f → ⊥
-parts_accepted parts ps some meet are long few FewPoints refused = some refused
-parts_accepted parts ps some meet are long few (Gap at) refused = refused.1 (meet_front parts (at + 1) meet)
-parts_accepted parts ps some meet are long few TooMany refused =
-    let many : HaveTooMany ps = subst HaveTooMany (sym (one_list ps refused.1.0 long (are ∙ sym refused.1.1))) refused.1.2 in
+    IsSequence ps → (f : SegmentFault) → IsPartsRefusal parts f → ⊥
+parts_accepted parts ps some meet are is FewPoints refused = some refused
+parts_accepted parts ps some meet are is (Gap at) refused = refused.1 (meet_front parts (at + 1) meet)
+parts_accepted parts ps some meet are is TooMany refused =
+    let long = length_segments ps in
+    let two = is.some in
+    let few = is.few in
+    let many : HaveTooMany ps = subst HaveTooMany (sym (one_list ps refused.1.0 (omega arith) (are ∙ sym refused.1.1))) refused.1.2 in
     omega arith
-parts_accepted parts ps some meet are long few (Number at fault) refused = refused
-parts_accepted parts ps some meet are long few (BelowZero at) refused = refused
-parts_accepted parts ps some meet are long few (NotLess at) refused = refused
-parts_accepted parts ps some meet are long few (AboveOne at) refused = refused
-parts_accepted parts ps some meet are long few (PeriodTooLarge period) refused = refused
-parts_accepted parts ps some meet are long few Memory refused = refused
+parts_accepted parts ps some meet are is (Number at fault) refused = refused
+parts_accepted parts ps some meet are is (BelowZero at) refused = refused
+parts_accepted parts ps some meet are is (NotLess at) refused = refused
+parts_accepted parts ps some meet are is (AboveOne at) refused = refused
+parts_accepted parts ps some meet are is (PeriodTooLarge period) refused = refused
+parts_accepted parts ps some meet are is Memory refused = refused
 
 pub sequence_read : (text : List ℕ) (values : List (List ℕ)) (ps : List Frac) {E : Type 0} (result : Result (List Frac) E) →
     values ≡ sequence_values text → ArePoints values ps → IfOk result (λ s. s ≡ ps) → IfOk result IsSequence →

@@ -39,9 +39,11 @@ at_most_more ps i d below all here =
 
 pub at_most_ends : (ps : List Frac) (i : ℕ) (d : Frac) → i < length ps → AreAtMostOne (take i ps) →
     (IsAtMostOne (get_or ps i d) → ⊥) → EndsAt AreAtMostOne ps i
-at_most_ends ps i d below all not_here =
-    (all, λ more. not_here (all_here IsAtMostOne ps i d below
-        (subst (λ n. AreAtMostOne (take n ps)) (let e : i + 1 ≡ suc i = omega arith in e) more)))
+at_most_ends ps i d below all not_here = (
+  all,
+  λ more. not_here (all_here IsAtMostOne ps i d below
+      (subst (λ n. AreAtMostOne (take n ps)) (let e : i + 1 ≡ suc i = omega arith in e) more)),
+)
 
 -- points that rise
 rise_more : (ps : List Frac) (i : ℕ) (d e : Frac) → suc i < length ps → Rise (take (suc i) ps) →
@@ -100,9 +102,11 @@ rise_next ps (suc i) x y some below so_far x_is y_is here =
 pub rise_ends : (ps : List Frac) (n : ℕ) (x y : Frac) → 1 ≤ n → n < length ps → Rise (take n ps) →
     x ≡ get_or ps (n - 1) x → y ≡ get_or ps n y → (IsBelow x y → ⊥) → EndsAt Rise ps n
 rise_ends ps zero x y some below so_far x_is y_is not_here = absurd (omega arith)
-rise_ends ps (suc i) x y some below so_far x_is y_is not_here =
-    (so_far, λ more. not_here (rise_meant ps i x y x_is y_is
-        (rise_here ps i x y below (subst (λ n. Rise (take n ps)) (let e : suc i + 1 ≡ suc (suc i) = omega arith in e) more))))
+rise_ends ps (suc i) x y some below so_far x_is y_is not_here = (
+  so_far,
+  λ more. not_here (rise_meant ps i x y x_is y_is
+      (rise_here ps i x y below (subst (λ n. Rise (take n ps)) (let e : suc i + 1 ≡ suc (suc i) = omega arith in e) more))),
+)
 
 -- segments that meet
 meet_more : (ss : List Segment) (i : ℕ) (d e : Segment) → suc i < length ss → Meet (take (suc i) ss) →
@@ -155,9 +159,11 @@ meet_next ss (suc i) x y some below so_far x_is y_is here =
 pub meet_ends : (ss : List Segment) (n : ℕ) (x y : Segment) → 1 ≤ n → n < length ss → Meet (take n ss) →
     x ≡ get_or ss (n - 1) x → y ≡ get_or ss n y → (x.to ≡ y.from → ⊥) → EndsAt Meet ss n
 meet_ends ss zero x y some below so_far x_is y_is not_here = absurd (omega arith)
-meet_ends ss (suc i) x y some below so_far x_is y_is not_here =
-    (so_far, λ more. not_here (meet_meant ss i x y x_is y_is
-        (meet_here ss i x y below (subst (λ n. Meet (take n ss)) (let e : suc i + 1 ≡ suc (suc i) = omega arith in e) more))))
+meet_ends ss (suc i) x y some below so_far x_is y_is not_here = (
+  so_far,
+  λ more. not_here (meet_meant ss i x y x_is y_is
+      (meet_here ss i x y below (subst (λ n. Meet (take n ss)) (let e : suc i + 1 ≡ suc (suc i) = omega arith in e) more))),
+)
 
 -- points that rise to 1 at most aren't refused
 pub points_not_refused : (ps : List Frac) → AreAtMostOne ps → Rise ps → (f : SegmentFault) → RefusesPoints ps f → ⊥

@@ -1,5 +1,5 @@
 -- How segments and sequences are printed.
-use Rattle.std.specs.Prelude.{◌≡◌, ◌==◌, Bool, ℕ, List, ◌∷◌, ◌++◌, decimal, map, if◌then◌else◌}
+use Rattle.std.specs.Prelude.{◌≡◌, ◌==◌, ◌<◌, ◌^◌, Bool, ℕ, List, ◌∷◌, ◌++◌, decimal, map, if◌then◌else◌}
 use Rattle.std.specs.List.{join_with_byte}
 use Rattle.ld_num.specs.Written.{stroke}
 use Rattle.ld_num.specs.declared.fraction.Frac.{Frac}
@@ -24,3 +24,8 @@ next_text follows p = if follows then comma ∷ point_text p else point_text p
 -- there is nothing else than more behind it
 abbrev pub Grows : List ℕ → List ℕ → Type 0
 Grows before after = (more : List ℕ) × (after ≡ before ++ more)
+
+-- each number of the point has nine digits at most
+pub record IsShort (p : Frac) : Type 0 where
+  pub num : p.num < 10 ^ 9
+  pub den : p.den < 10 ^ 9

@@ -3,6 +3,7 @@
 
 mod fault;
 mod filling;
+mod laws;
 mod parts;
 mod points;
 mod print;
@@ -11,6 +12,10 @@ mod sequence;
 mod value;
 
 pub use fault::SegmentFault;
+pub use laws::{
+    filled_points, one_position, one_reading, segments_meet, segments_read_back, segments_rise,
+    sequences_read_back,
+};
 pub use segment::Segment;
 pub use sequence::Sequence;
 

@@ -49,6 +49,7 @@ impl Sequence {
     /// segments when they are filled.
     pub fn read(alloc: Global, text: &[u8]) -> Result<Sequence, SegmentFault>
         ensures value { IfOk result (ArePoints (sequence_values text.now)) }
+        ensures sequence { IfOk result IsSequence }
         ensures accepted { IfOk result (λ _. (f : SegmentFault) → IsSequenceRefusal text.now f → ⊥) }
         ensures refused { IfErr result (λ f. f ≢ SegmentFault.Memory → IsSequenceRefusal text.now f) }
     {
@@ -79,6 +80,7 @@ impl Sequence {
     /// ends, and more than 100 segments when it is filled.
     pub fn of_segments(alloc: Global, parts: &[Segment]) -> Result<Sequence, SegmentFault>
         ensures value { IfOk result (λ s. segments_of s ≡ map ends parts.now) }
+        ensures sequence { IfOk result IsSequence }
         ensures accepted { IfOk result (λ _. (f : SegmentFault) → IsPartsRefusal parts.now f → ⊥) }
         ensures refused { IfErr result (λ f. f ≢ SegmentFault.Memory → IsPartsRefusal parts.now f) }
     {
@@ -106,6 +108,7 @@ impl Sequence {
     ) -> Result<Sequence, SegmentFault>
         ensures value { IfOk result (λ s. s ≡ filled (given_points segment.now.from segment.now.to sequence)) }
         ensures whole { IfOk result IsFilled }
+        ensures sequence { IfOk result IsSequence }
         ensures memory { IfErr result (λ f. f ≡ SegmentFault.Memory) }
     {
         match sequence {
@@ -130,7 +133,8 @@ impl Sequence {
 
     /// The number of segments.
     pub fn len(&self) -> usize
-        ensures { result ≡ length (segments_of self.now) }
+        ensures count { result ≡ length (segments_of self.now) }
+        ensures sequence { IsSequence self.now }
     {
         self.points.len() - 1
     }
@@ -162,6 +166,7 @@ impl Sequence {
     fn filled(&self, alloc: Global) -> Result<Sequence, SegmentFault>
         ensures value { IfOk result (λ s. s ≡ filled self.now) }
         ensures whole { IfOk result IsFilled }
+        ensures sequence { IfOk result IsSequence }
         ensures memory { IfErr result (λ f. f ≡ SegmentFault.Memory) }
     {
         let points = fill_points(alloc, &self.points)?;
@@ -172,6 +177,7 @@ impl Sequence {
     fn round(alloc: Global, segment: &Segment) -> Result<Sequence, SegmentFault>
         ensures value { IfOk result (λ s. s ≡ filled (segment.now.from ∷ segment.now.to ∷ [])) }
         ensures whole { IfOk result IsFilled }
+        ensures sequence { IfOk result IsSequence }
         ensures memory { IfErr result (λ f. f ≡ SegmentFault.Memory) }
     {
         let points = fill_points(alloc, &[segment.from, segment.to])?;

@@ -6,3 +6,6 @@ use Rattle.ld_segment.proofs.sequence.Sequence.round.Goals as goal
 
 pub invariant_of-result : goal.invariant_of-result
 invariant_of-result c = subst IsSequence (sym c.in_ok-points.ensures) (filled_sequence _ (segment_sequence c.args.segment.now))
+
+pub returns-clause-sequence : goal.returns-clause-sequence
+returns-clause-sequence c = subst IsSequence (sym c.in_ok-points.ensures) (filled_sequence _ (segment_sequence c.args.segment.now))
