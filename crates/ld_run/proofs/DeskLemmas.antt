@@ -1,66 +1,127 @@
 -- The run of the desk, put together from what was read and what was said.
-use Rattle.std.proofs.Common.{◌≡◌, ◌≢◌, ◌<◌, ◌≤◌, ◌⊎◌, ◌∷◌, ◌++◌, ◌∙◌, [], ℕ, List, inl, inr, length, arith, refl, sym, subst, ap, ap₂, suc, cond}
-use Rattle.std.proofs.lemmas.Bool.{lt-ltb}
-use Rattle.std.specs.Prelude.{Option, Some, None, IfSome, IsSomeAnd, sum}
+use Rattle.std.proofs.Common.{◌≡◌, ◌≢◌, ◌≤◌, ◌⊎◌, ◌++◌, ◌∙◌, [], ℕ, List, inl, inr, arith, refl, sym, subst, ap}
+use Rattle.std.specs.Prelude.{Option, Some, None, IfSome, IsSomeAnd}
 use Rattle.std.proofs.lemmas.List.{append-nil}
 use Rattle.ld_outside.specs.SinkView.{SinkView, Took, TookFront, Rose}
-use Rattle.ld_stripe.specs.declared.fault.StripeFault.TheVariants as fault
-use Rattle.std.proofs.Math.Decide.{dec_lt}
-use Rattle.std.proofs.lemmas.List.Sums.{sum_by-cons}
+use Rattle.ld_segment.specs.declared.fault.SegmentFault.{SegmentFault}
+use Rattle.ld_segment.specs.declared.fault.SegmentFault.TheVariants as cuts
 use Rattle.ld_stripe.specs.StripeFault as stripe
-use Rattle.ld_stripe.specs.Striping.{IsStriping, IsStripingOf}
-use Rattle.ld_stripe.proofs.LowestTermsLemmas.{one_form}
-use Rattle.ld_stripe.proofs.StripingLaws.{striping_unique}
-use Rattle.ld_run.specs.Indices.{numbers_line, owned_below}
+use Rattle.ld_stripe.specs.declared.fault.StripeFault.{StripeFault}
+use Rattle.ld_stripe.specs.declared.fault.StripeFault.TheVariants as stripes
+use Rattle.ld_words.specs.Words as words
+use Rattle.ld_words.specs.declared.fault.WordsFault.{WordsFault}
+use Rattle.ld_words.specs.declared.fault.WordsFault.TheVariants.{Refused}
+use Rattle.ld_words.specs.declared.words.Words as requests
+use Rattle.ld_words.specs.declared.words.Words.TheVariants.{StripeWeights, StripeSegment}
+use Rattle.ld_words.proofs.ReadingLemmas.{asked_not_refused, asked_once}
+use Rattle.ld_run.specs.Cut.{IsCutRefusal}
 use Rattle.ld_run.specs.DeskRun.{IsDeskRun, IsLine}
-use Rattle.ld_run.specs.Refusal.{HasText, IsAccepted, IsRefused, IsStripeRefusal, line_of, memory_line, status_of}
+use Rattle.ld_run.specs.Refusal.{HasText, IsRefusalOf, IsRefused, IsTextOf, line_of, memory_line, segment_status, status_of, stripe_status}
 use Rattle.ld_run.specs.Saying.{IsRefusalSaid, IsTextPut, Says, Untouched, write_line}
-use Rattle.ld_run.specs.Words.{AskForStripe, IsRefusedAt}
 use Rattle.ld_run.specs.declared.refusal.Refusal.{Refusal}
-use Rattle.ld_run.specs.declared.refusal.Refusal.TheVariants.{Words, Stripe, NoSuchPosition, Memory}
-use Rattle.ld_run.proofs.ReadingLemmas.{asked_not_refused, asked_once}
+use Rattle.ld_run.specs.declared.refusal.Refusal.TheVariants.{Words, Stripe, NoSuchPosition, Segment, NotInSequence, Memory}
+use Rattle.ld_run.proofs.CutLemmas.{cut_text_not_refused, memory_not_refused, one_cut_text}
 use Rattle.ld_run.proofs.SayingLemmas.{said_front}
+use Rattle.ld_run.proofs.StripeLemmas.{one_weights_text, weights_text_not_refused}
+
+-- ---- requests
+
+-- a request that has a text isn't refused
+request_not_refused : (request : requests.Words) (text : List ℕ) (r : Refusal) → IsTextOf request text → IsRefusalOf request r → ⊥
+request_not_refused (StripeWeights weights position count) text r has refused = weights_text_not_refused weights position count text r has refused
+request_not_refused (StripeSegment count segment sequence) text r has refused = cut_text_not_refused count segment sequence text r has refused
+
+-- it has one text
+request_text : (request : requests.Words) (a b : List ℕ) → IsTextOf request a → IsTextOf request b → a ≡ b
+request_text (StripeWeights weights position count) a b ha hb = one_weights_text weights position count a b ha hb
+request_text (StripeSegment count segment sequence) a b ha hb = one_cut_text count segment sequence a b ha hb
+
+-- its refusals have the status 5
+stripe_status_is : (weights : List ℕ) (f : StripeFault) → stripe.IsRefusal weights f → stripe_status f ≡ 5
+stripe_status_is weights stripes.NoWeights refused = refl
+stripe_status_is weights stripes.TooMany refused = refl
+stripe_status_is weights (stripes.ZeroWeight p) refused = refl
+stripe_status_is weights (stripes.PeriodTooLarge n) refused = refl
+stripe_status_is weights stripes.Memory refused = absurd refused
+
+segment_status_is : (segment sequence : Option (List ℕ)) (f : SegmentFault) → IsCutRefusal segment sequence (Segment f) → segment_status f ≡ 5
+segment_status_is segment sequence (cuts.Number at fault) refused = refl
+segment_status_is segment sequence (cuts.BelowZero at) refused = refl
+segment_status_is segment sequence (cuts.NotLess at) refused = refl
+segment_status_is segment sequence (cuts.AboveOne at) refused = refl
+segment_status_is segment sequence (cuts.Gap at) refused = refl
+segment_status_is segment sequence cuts.FewPoints refused = refl
+segment_status_is segment sequence (cuts.PeriodTooLarge n) refused = refl
+segment_status_is segment sequence cuts.TooMany refused = refl
+segment_status_is segment sequence cuts.Memory refused = absurd (memory_not_refused segment sequence refused)
+
+request_status : (request : requests.Words) (r : Refusal) → IsRefusalOf request r → status_of r ≡ 5
+request_status (StripeWeights weights position count) (Words place) refused = absurd refused
+request_status (StripeWeights weights position count) (Stripe f) refused = stripe_status_is weights f refused
+request_status (StripeWeights weights position count) (NoSuchPosition p) refused = refl
+request_status (StripeWeights weights position count) (Segment f) refused = absurd refused
+request_status (StripeWeights weights position count) NotInSequence refused = absurd refused
+request_status (StripeWeights weights position count) Memory refused = absurd refused
+request_status (StripeSegment count segment sequence) (Words place) refused = absurd refused
+request_status (StripeSegment count segment sequence) (Stripe f) refused = absurd refused
+request_status (StripeSegment count segment sequence) (NoSuchPosition p) refused = absurd refused
+request_status (StripeSegment count segment sequence) (Segment f) refused = segment_status_is segment sequence f refused
+request_status (StripeSegment count segment sequence) NotInSequence refused = refl
+request_status (StripeSegment count segment sequence) Memory refused = absurd refused
+
+-- ---- words
+
+-- what is refused of the words: the words themselves, or what they name
+abbrev IsOfWords : List (List ℕ) → Refusal → Type 0
+IsOfWords ws r = (f : WordsFault) × words.IsRefused ws f × (status_of r ≡ 2)
+
+abbrev IsOfNames : List (List ℕ) → Refusal → Type 0
+IsOfNames ws r = (request : requests.Words) × words.Asks ws request × IsRefusalOf request r
+
+refused_part : (ws : List (List ℕ)) (r : Refusal) → IsRefused ws r → IsOfWords ws r ⊎ IsOfNames ws r
+refused_part ws (Words place) refused = inl (Refused place, refused, refl)
+refused_part ws (Stripe f) refused = inr refused
+refused_part ws (NoSuchPosition p) refused = inr refused
+refused_part ws (Segment f) refused = inr refused
+refused_part ws NotInSequence refused = inr refused
+refused_part ws Memory refused = absurd refused
 
 -- words that ask for a text are not refused
-pub text_not_refused : (words : List (List ℕ)) (text : List ℕ) (r : Refusal) → HasText words text → IsRefused words r → ⊥
-text_not_refused words text (Words place) has refused = asked_not_refused words has.0 has.1 has.2 place has.3 refused
-text_not_refused words text (Stripe f) has refused =
-    let same = (asked_once words has.0 refused.0 has.1 refused.1 has.2 refused.2 has.3 refused.3).0 in
-    let accepted = has.4.accepted in
-    accepted f (subst (λ weights. IsStripeRefusal weights refused.1 (Stripe f)) (sym same) refused.4)
-text_not_refused words text (NoSuchPosition p) has refused =
-    let same = asked_once words has.0 refused.0 has.1 refused.1 has.2 refused.2 has.3 refused.3 in
-    let inside = has.4.inside in
-    let outside = refused.4.2 in
-    let long = ap length same.0 in
-    let at = same.1 in
-    omega arith
-text_not_refused words text Memory has refused = refused
+pub text_not_refused : (ws : List (List ℕ)) (text : List ℕ) (r : Refusal) → HasText ws text → IsRefused ws r → ⊥
+text_not_refused ws text r has refused =
+    elim (refused_part ws r refused) [
+      | inl of_words ↦ asked_not_refused ws has.0 of_words.0 has.1 of_words.1
+      | inr of_names ↦
+          let same = asked_once ws has.0 of_names.0 has.1 of_names.1 in
+          request_not_refused of_names.0 text r (subst (λ q. IsTextOf q text) same has.2) of_names.2
+    ]
 
--- a refusal that isn't of the words as words is of what they name
-named_status : (words : List (List ℕ)) (r : Refusal) → IsRefused words r →
-    ((place : ℕ) × IsRefusedAt words place × (status_of r ≡ 2))
-    ⊎ ((weights : List ℕ) × (position : ℕ) × (count : ℕ) × AskForStripe words weights position count × (status_of r ≡ 5))
-named_status words (Words place) refused = inl (place, refused, refl)
-named_status words (Stripe (fault.ZeroWeight p)) refused = inr (refused.0, refused.1, refused.2, refused.3, refl)
-named_status words (Stripe (fault.PeriodTooLarge n)) refused = inr (refused.0, refused.1, refused.2, refused.3, refl)
-named_status words (Stripe fault.Memory) refused = absurd refused.4
-named_status words (NoSuchPosition p) refused = inr (refused.0, refused.1, refused.2, refused.3, refl)
-named_status words Memory refused = absurd refused
+named_status : (ws : List (List ℕ)) (r : Refusal) → IsRefused ws r →
+    IsOfWords ws r ⊎ ((request : requests.Words) × words.Asks ws request × (status_of r ≡ 5))
+named_status ws r refused =
+    elim (refused_part ws r refused) as (λ _. IsOfWords ws r ⊎ ((request : requests.Words) × words.Asks ws request × (status_of r ≡ 5))) [
+      | inl of_words ↦ inl of_words
+      | inr of_names ↦ inr (of_names.0, of_names.1, request_status of_names.0 r of_names.2)
+    ]
 
 -- the refusals of one list of words have one status
-pub one_status : (words : List (List ℕ)) (r s : Refusal) → IsRefused words r → IsRefused words s → status_of r ≡ status_of s
-one_status words r s a b = same (named_status words r a) (named_status words s b)
+pub one_status : (ws : List (List ℕ)) (r s : Refusal) → IsRefused ws r → IsRefused ws s → status_of r ≡ status_of s
+one_status ws r s a b = same (named_status ws r a) (named_status ws s b)
   where
-    same : ((place : ℕ) × IsRefusedAt words place × (status_of r ≡ 2))
-        ⊎ ((weights : List ℕ) × (position : ℕ) × (count : ℕ) × AskForStripe words weights position count × (status_of r ≡ 5)) →
-        ((place : ℕ) × IsRefusedAt words place × (status_of s ≡ 2))
-        ⊎ ((weights : List ℕ) × (position : ℕ) × (count : ℕ) × AskForStripe words weights position count × (status_of s ≡ 5)) →
-        status_of r ≡ status_of s
+    same : IsOfWords ws r ⊎ ((request : requests.Words) × words.Asks ws request × (status_of r ≡ 5)) →
+        IsOfWords ws s ⊎ ((request : requests.Words) × words.Asks ws request × (status_of s ≡ 5)) → status_of r ≡ status_of s
     same (inl x) (inl y) = x.2 ∙ sym y.2
-    same (inl x) (inr y) = absurd (asked_not_refused words y.0 y.1 y.2 x.0 y.3 x.1)
-    same (inr x) (inl y) = absurd (asked_not_refused words x.0 x.1 x.2 y.0 x.3 y.1)
-    same (inr x) (inr y) = x.4 ∙ sym y.4
+    same (inl x) (inr y) = absurd (asked_not_refused ws y.0 x.0 y.1 x.1)
+    same (inr x) (inl y) = absurd (asked_not_refused ws x.0 y.0 x.1 y.1)
+    same (inr x) (inr y) = x.2 ∙ sym y.2
+
+-- words ask for one text
+pub one_text : (ws : List (List ℕ)) (a b : List ℕ) → HasText ws a → HasText ws b → a ≡ b
+one_text ws a b ha hb =
+    let same = asked_once ws ha.0 hb.0 ha.1 hb.1 in
+    request_text hb.0 a b (subst (λ q. IsTextOf q a) same ha.2) hb.2
+
+-- ---- runs
 
 -- a sink that no call was made of
 untouched : (out : SinkView) → Untouched out out
@@ -128,6 +189,8 @@ told_or_memory : (words : List (List ℕ)) (refusal : Refusal) → (refusal ≢ 
 told_or_memory words (Words place) refused = inr (refused (λ e. cc))
 told_or_memory words (Stripe f) refused = inr (refused (λ e. cc))
 told_or_memory words (NoSuchPosition p) refused = inr (refused (λ e. cc))
+told_or_memory words (Segment f) refused = inr (refused (λ e. cc))
+told_or_memory words NotInSequence refused = inr (refused (λ e. cc))
 told_or_memory words Memory refused = inl refl
 
 -- memory lacked, and a front of a line was taken
@@ -152,8 +215,8 @@ refused_run : (words : List (List ℕ)) (refusal : Refusal) (status : ℕ) (out 
     IsDeskRun words status out out err err'
 refused_run words refusal status out err err' refused is said count =
     elim (named_status words refusal refused) as (λ _. IsDeskRun words status out out err err') [
-      | inl words_refused ↦ made (inl (is ∙ words_refused.2))
-      | inr names_refused ↦ made (inr (is ∙ names_refused.4))
+      | inl of_words ↦ made (inl (is ∙ of_words.2))
+      | inr of_names ↦ made (inr (is ∙ of_names.2))
     ]
   where
     made : (status ≡ 2) ⊎ (status ≡ 5) → IsDeskRun words status out out err err'
@@ -195,32 +258,3 @@ refusal_run words refusal status out err err' refused said = run (told_or_memory
         | inr front ↦ front
       ],
     ) said.count
-
--- weights with a first zero have no text
-sum_above_zero : (weights : List ℕ) (position : ℕ) → position < length weights → IsAccepted weights → 0 < sum weights
-sum_above_zero [] position inside accepted = absurd (omega arith)
-sum_above_zero (w ∷ ws) position inside accepted =
-    let split = sum_by-cons (λ x. x) w ws in
-    elim (dec_lt 0 w) [
-      | yes above ↦ omega arith
-      | no zero ↦
-          let none : w ≡ 0 = omega arith in
-          absurd (accepted (fault.ZeroWeight 0) (subst (λ v. stripe.first_zero (v ∷ ws) ≡ Some 0) (sym none)
-          (ap (λ b. cond b (Some 0) None) (lt-ltb 0 (suc (length ws)) (omega arith)))))
-    ]
-
--- words ask for one text
-pub one_text : (words : List (List ℕ)) (a b : List ℕ) → HasText words a → HasText words b → a ≡ b
-one_text words a b ha hb =
-    let same = asked_once words ha.0 hb.0 ha.1 hb.1 ha.2 hb.2 ha.3 hb.3 in
-    let text_a = ha.4 in
-    let text_b = hb.4 in
-    let striped_b : IsStripingOf ha.0 text_b.striping = subst (λ weights. IsStripingOf weights text_b.striping) (sym same.0) text_b.striped in
-    let some = sum_above_zero ha.0 ha.1 text_a.inside text_a.accepted in
-    let form = one_form ha.0 text_a.striping.weights text_b.striping.weights some text_a.striped.lowest_terms striped_b.lowest_terms in
-    let owners = striping_unique text_b.striping.weights text_a.striping.owners text_b.striping.owners
-    (subst (λ weights. IsStriping weights text_a.striping.owners) form text_a.striped.striping) striped_b.striping in
-    text_a.text_is
-    ∙ ap (λ os. numbers_line (owned_below os ha.1 ha.2)) owners
-    ∙ ap₂ (λ p n. numbers_line (owned_below text_b.striping.owners p n)) same.1 same.2
-    ∙ sym text_b.text_is

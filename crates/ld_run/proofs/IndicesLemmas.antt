@@ -14,9 +14,9 @@ abbrev pub is_some_of : List ℕ → Bool
 is_some_of [] = false
 is_some_of (x ∷ xs) = true
 
--- the text so far is that of the numbers so far
-pub record IsLineSoFar (numbers text : List ℕ) (follows : Bool) : Type 0 where
-  pub text_is : text ≡ spaced numbers
+-- the text so far is what was there before, with that of the numbers so far behind it
+pub record IsLineSoFar (before numbers text : List ℕ) (follows : Bool) : Type 0 where
+  pub text_is : text ≡ before ++ spaced numbers
   pub follows_is : follows ≡ is_some_of numbers
 
 -- joining with one more piece at the end
@@ -34,10 +34,13 @@ is_some-push [] n = refl
 is_some-push (m ∷ ms) n = refl
 
 -- one number more
-pub line_more : (numbers text : List ℕ) (follows : Bool) (n : ℕ) → IsLineSoFar numbers text follows →
-    IsLineSoFar (numbers ++ n ∷ []) (text ++ item follows n) true
-line_more numbers text follows n so_far = record {
-  text_is = ap₂ (λ t f. t ++ item f n) so_far.text_is so_far.follows_is ∙ sym (spaced-push numbers n);
+pub line_more : (before numbers text : List ℕ) (follows : Bool) (n : ℕ) → IsLineSoFar before numbers text follows →
+    IsLineSoFar before (numbers ++ n ∷ []) (text ++ item follows n) true
+line_more before numbers text follows n so_far = record {
+  text_is =
+      ap₂ (λ t f. t ++ item f n) so_far.text_is so_far.follows_is
+      ∙ append_assoc before (spaced numbers) (item (is_some_of numbers) n)
+      ∙ ap (λ t. before ++ t) (sym (spaced-push numbers n));
   follows_is = sym (is_some-push numbers n);
 }
 

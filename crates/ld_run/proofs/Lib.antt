@@ -1,5 +1,5 @@
-pub mod IndicesLemmas
-pub mod WordsLemmas
-pub mod ReadingLemmas
-pub mod SayingLemmas
+pub mod CutLemmas
 pub mod DeskLemmas
+pub mod IndicesLemmas
+pub mod SayingLemmas
+pub mod StripeLemmas

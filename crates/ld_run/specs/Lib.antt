@@ -1,6 +1,7 @@
+pub mod Cut
 pub mod DeskRun
+pub mod Faults
 pub mod Indices
 pub mod Refusal
 pub mod Saying
-pub mod StripeRefusal
-pub mod Words
+pub mod Stripe

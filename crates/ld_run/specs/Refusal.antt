@@ -1,59 +1,75 @@
--- What is refused, and the line and the status that say so.
-use Rattle.std.specs.Prelude.{◌≡◌, ◌<◌, ◌≤◌, ◌∷◌, ◌++◌, [], ℕ, List, length, codes, decimal}
-use Rattle.ld_stripe.specs.Striping.{Striping, IsStripingOf}
-use Rattle.ld_stripe.specs.StripeFault as stripe
+-- What the words ask for, what is refused of it, and the line and the status that say so.
+use Rattle.std.specs.Prelude.{◌∷◌, ◌++◌, [], ℕ, List, codes, decimal}
+use Rattle.ld_num.specs.declared.fault.NumFault.{NumFault}
+use Rattle.ld_num.specs.declared.fault.NumFault.TheVariants as numbers
+use Rattle.ld_segment.specs.declared.fault.SegmentFault.{SegmentFault}
+use Rattle.ld_segment.specs.declared.fault.SegmentFault.TheVariants as cuts
 use Rattle.ld_stripe.specs.declared.fault.StripeFault.{StripeFault}
-use Rattle.ld_stripe.specs.declared.fault.StripeFault.TheVariants as fault
-use Rattle.ld_run.specs.Indices.{numbers_line, owned_below}
-use Rattle.ld_run.specs.Words.{IsRefusedAt, AskForStripe}
+use Rattle.ld_stripe.specs.declared.fault.StripeFault.TheVariants as stripes
+use Rattle.ld_words.specs.Words as words
+use Rattle.ld_words.specs.declared.fault.WordsFault.TheVariants.{Refused}
+use Rattle.ld_words.specs.declared.words.Words as requests
+use Rattle.ld_words.specs.declared.words.Words.TheVariants.{StripeWeights, StripeSegment}
+use Rattle.ld_run.specs.Cut.{IsCutRefusal, IsCutText}
+use Rattle.ld_run.specs.Stripe.{IsWeightsRefusal, IsWeightsText}
 use Rattle.ld_run.specs.declared.refusal.Refusal.{Refusal}
-use Rattle.ld_run.specs.declared.refusal.Refusal.TheVariants.{Words, Stripe, NoSuchPosition, Memory}
+use Rattle.ld_run.specs.declared.refusal.Refusal.TheVariants.{Words, Stripe, NoSuchPosition, Segment, NotInSequence, Memory}
 
--- the weights have a striping: no fault of theirs comes
-abbrev pub IsAccepted : List ℕ → Type 0
-IsAccepted weights = (f : StripeFault) → stripe.IsRefusal weights f → ⊥
+-- the text that a request has
+abbrev pub IsTextOf : requests.Words → List ℕ → Type 0
+IsTextOf (StripeWeights weights position count) text = IsWeightsText weights position count text
+IsTextOf (StripeSegment count segment sequence) text = IsCutText count segment sequence text
 
--- `stripe` is refused so: first for its weights, then for its position
-abbrev pub IsStripeRefusal : List ℕ → ℕ → Refusal → Type 0
-IsStripeRefusal weights position (Words place) = ⊥
-IsStripeRefusal weights position (Stripe f) = stripe.IsRefusal weights f
-IsStripeRefusal weights position (NoSuchPosition p) =
-    IsAccepted weights × (p ≡ position) × (length weights ≤ position)
-IsStripeRefusal weights position Memory = ⊥
+-- a request is refused so
+abbrev pub IsRefusalOf : requests.Words → Refusal → Type 0
+IsRefusalOf (StripeWeights weights position count) r = IsWeightsRefusal weights position r
+IsRefusalOf (StripeSegment count segment sequence) r = IsCutRefusal segment sequence r
+
+-- the text that the words ask for
+abbrev pub HasText : List (List ℕ) → List ℕ → Type 0
+HasText ws text = (request : requests.Words) × words.Asks ws request × IsTextOf request text
+
+-- what the words ask for is refused so
+abbrev pub NamesRefused : List (List ℕ) → Refusal → Type 0
+NamesRefused ws r = (request : requests.Words) × words.Asks ws request × IsRefusalOf request r
 
 -- The words are refused so: first as words, then for what they name. Want of memory is no refusal of
 -- theirs.
 abbrev pub IsRefused : List (List ℕ) → Refusal → Type 0
-IsRefused words (Words place) = IsRefusedAt words place
-IsRefused words (Stripe f) =
-    (weights : List ℕ) × (position : ℕ) × (count : ℕ)
-    × AskForStripe words weights position count × IsStripeRefusal weights position (Stripe f)
-IsRefused words (NoSuchPosition p) =
-    (weights : List ℕ) × (position : ℕ) × (count : ℕ)
-    × AskForStripe words weights position count × IsStripeRefusal weights position (NoSuchPosition p)
-IsRefused words Memory = ⊥
+IsRefused ws (Words place) = words.IsRefused ws (Refused place)
+IsRefused ws (Stripe f) = NamesRefused ws (Stripe f)
+IsRefused ws (NoSuchPosition p) = NamesRefused ws (NoSuchPosition p)
+IsRefused ws (Segment f) = NamesRefused ws (Segment f)
+IsRefused ws NotInSequence = NamesRefused ws NotInSequence
+IsRefused ws Memory = ⊥
 
--- the text of `stripe`: the line of the indices that the position owns in the weights' striping
-pub record IsStripeText (weights : List ℕ) (position count : ℕ) (text : List ℕ) : Type 0 where
-  pub accepted : IsAccepted weights
-  pub inside : position < length weights
-  pub striping : Striping
-  pub striped : IsStripingOf weights striping
-  pub text_is : text ≡ numbers_line (owned_below striping.owners position count)
-
--- the text that the words ask for
-abbrev pub HasText : List (List ℕ) → List ℕ → Type 0
-HasText words text =
-    (weights : List ℕ) × (position : ℕ) × (count : ℕ)
-    × AskForStripe words weights position count × IsStripeText weights position count text
+-- ---- how a refusal is said
 
 -- the status that a refusal ends with
+abbrev pub stripe_status : StripeFault → ℕ
+stripe_status stripes.Memory = 9
+stripe_status stripes.NoWeights = 5
+stripe_status stripes.TooMany = 5
+stripe_status (stripes.ZeroWeight position) = 5
+stripe_status (stripes.PeriodTooLarge period) = 5
+
+abbrev pub segment_status : SegmentFault → ℕ
+segment_status cuts.Memory = 9
+segment_status (cuts.Number at fault) = 5
+segment_status (cuts.BelowZero at) = 5
+segment_status (cuts.NotLess at) = 5
+segment_status (cuts.AboveOne at) = 5
+segment_status (cuts.Gap at) = 5
+segment_status cuts.FewPoints = 5
+segment_status (cuts.PeriodTooLarge period) = 5
+segment_status cuts.TooMany = 5
+
 abbrev pub status_of : Refusal → ℕ
 status_of (Words place) = 2
-status_of (Stripe (fault.ZeroWeight position)) = 5
-status_of (Stripe (fault.PeriodTooLarge period)) = 5
-status_of (Stripe fault.Memory) = 9
+status_of (Stripe f) = stripe_status f
 status_of (NoSuchPosition position) = 5
+status_of (Segment f) = segment_status f
+status_of NotInSequence = 5
 status_of Memory = 9
 
 -- a line of a text and a number behind it
@@ -64,11 +80,41 @@ line_with text number = text ++ decimal number ++ 10 ∷ []
 abbrev pub memory_line : List ℕ
 memory_line = codes "error memory\n"
 
+-- the line that says a fault of weights
+abbrev pub stripe_line : StripeFault → List ℕ
+stripe_line stripes.NoWeights = codes "error 20 NoWeights\n"
+stripe_line stripes.TooMany = codes "error 17 TooMany\n"
+stripe_line (stripes.ZeroWeight position) = line_with (codes "error 21 ZeroWeight ") position
+stripe_line (stripes.PeriodTooLarge period) = line_with (codes "error 16 PeriodTooLarge ") period
+stripe_line stripes.Memory = memory_line
+
+-- the number and the name of a fault of a number, with a space behind it
+abbrev pub number_name : NumFault → List ℕ
+number_name numbers.Empty = codes "error 1 Empty "
+number_name numbers.BadDigit = codes "error 2 BadDigit "
+number_name numbers.ZeroDenominator = codes "error 3 ZeroDenominator "
+number_name numbers.TooLarge = codes "error 4 TooLarge "
+number_name numbers.BadUnit = codes "error 5 BadUnit "
+number_name numbers.NotWhole = codes "error 6 NotWhole "
+number_name numbers.Memory = codes "error memory "
+
+-- the line that says a fault of a segment or a sequence
+abbrev pub segment_line : SegmentFault → List ℕ
+segment_line (cuts.Number at fault) = line_with (number_name fault) at
+segment_line (cuts.BelowZero at) = line_with (codes "error 10 BelowZero ") at
+segment_line (cuts.NotLess at) = line_with (codes "error 11 NotLess ") at
+segment_line (cuts.AboveOne at) = line_with (codes "error 12 AboveOne ") at
+segment_line (cuts.Gap at) = line_with (codes "error 13 Gap ") at
+segment_line cuts.FewPoints = codes "error 14 FewPoints\n"
+segment_line (cuts.PeriodTooLarge period) = line_with (codes "error 16 PeriodTooLarge ") period
+segment_line cuts.TooMany = codes "error 17 TooMany\n"
+segment_line cuts.Memory = memory_line
+
 -- the line that says a refusal
 abbrev pub line_of : Refusal → List ℕ
 line_of (Words place) = line_with (codes "error words ") place
-line_of (Stripe (fault.ZeroWeight position)) = line_with (codes "error 21 ZeroWeight ") position
-line_of (Stripe (fault.PeriodTooLarge period)) = line_with (codes "error 16 PeriodTooLarge ") period
-line_of (Stripe fault.Memory) = memory_line
+line_of (Stripe f) = stripe_line f
 line_of (NoSuchPosition position) = line_with (codes "error 22 NoSuchPosition ") position
+line_of (Segment f) = segment_line f
+line_of NotInSequence = codes "error 15 NotInSequence\n"
 line_of Memory = memory_line

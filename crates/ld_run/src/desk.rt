@@ -1,15 +1,14 @@
 // The commands that never wait.
-ghost use Rattle.std.specs.Prelude.{◌≢◌, ◌<◌, ◌≤◌, length, map, string_bytes, MatchResult};
+ghost use Rattle.std.specs.Prelude.{◌≢◌, map, string_bytes, MatchResult};
 ghost use Rattle.ld_run.specs.DeskRun.{IsDeskRun};
-ghost use Rattle.ld_run.specs.Refusal.{HasText, IsRefused, IsStripeRefusal, IsStripeText};
+ghost use Rattle.ld_run.specs.Refusal.{HasText, IsRefusalOf, IsRefused, IsTextOf};
 ghost use Rattle.ld_run.specs.Saying.{IsRefusalSaid, IsSaid, IsTextPut};
 ghost use Rattle.ld_run.specs.declared.refusal.Refusal.{Refusal};
 
-use crate::indices::indices_line;
 use crate::refusal::Refusal;
-use crate::words::{Words, read_words};
+use crate::stripe::{cut_text, weights_text};
 use ld_outside::{Sink, SinkFault, put_all};
-use ld_stripe::Stripe;
+use ld_words::{Words, read_words};
 use std::alloc::Global;
 
 /// The status of a run that ended well.
@@ -61,33 +60,28 @@ fn text_of(alloc: Global, words: &[String]) -> Result<Vec<u8>, Refusal>
         (λ text. HasText (map string_bytes words.now) text.items)
         (λ refusal. refusal ≢ Refusal.Memory → IsRefused (map string_bytes words.now) refusal) }
 {
-    match read_words(alloc, words)? {
+    let request = read_words(alloc, words)?;
+    text_for(alloc, &request)
+}
+
+// The text of a request.
+fn text_for(alloc: Global, request: &Words) -> Result<Vec<u8>, Refusal>
+    ensures { MatchResult result
+        (λ text. IsTextOf request.now text.items)
+        (λ refusal. refusal ≢ Refusal.Memory → IsRefusalOf request.now refusal) }
+{
+    match request {
         Words::StripeWeights {
             weights,
             position,
             count,
-        } => stripe_text(alloc, &weights, position, count),
+        } => weights_text(alloc, weights.as_slice(), *position, *count),
+        Words::StripeSegment {
+            count,
+            segment,
+            sequence,
+        } => cut_text(alloc, *count, segment, sequence),
     }
-}
-
-// The text of `stripe`: the line of the indices below `count` that the position owns.
-fn stripe_text(
-    alloc: Global,
-    weights: &[u64],
-    position: u32,
-    count: u32,
-) -> Result<Vec<u8>, Refusal>
-    requires some { 0 < length weights.now }
-    requires few { length weights.now ≤ 100 }
-    ensures { MatchResult result
-        (λ text. IsStripeText weights.now position count text.items)
-        (λ refusal. refusal ≢ Refusal.Memory → IsStripeRefusal weights.now position refusal) }
-{
-    let stripe = Stripe::of_weights(alloc, weights)?;
-    if position as usize >= weights.len() {
-        return Err(Refusal::NoSuchPosition(position));
-    }
-    Ok(indices_line(alloc, &stripe, position as usize, count)?)
 }
 
 // Puts the text on `out`, and a line on `err` where that fails.

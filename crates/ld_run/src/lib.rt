@@ -5,8 +5,8 @@ mod desk;
 mod indices;
 mod laws;
 mod refusal;
+mod stripe;
 mod text;
-mod words;
 
 pub use desk::{command, desk_command};
 pub use laws::one_answer;

@@ -1,6 +1,8 @@
-use crate::text::line_with;
+use crate::text::{line_with, segment_line, stripe_line};
 use ld_base::BaseFault;
+use ld_segment::SegmentFault;
 use ld_stripe::StripeFault;
+use ld_words::WordsFault;
 use std::alloc::{AllocError, Global};
 use thiserror::Error;
 
@@ -16,6 +18,12 @@ pub enum Refusal {
     /// The position is not below the number of weights.
     #[error("there is no position {0}")]
     NoSuchPosition(u32),
+    /// The segment or the sequence is refused, or has no weights.
+    #[error(transparent)]
+    Segment(SegmentFault),
+    /// The sequence has no segment that is equal to this one.
+    #[error("the segment isn't in the sequence")]
+    NotInSequence,
     /// There is no memory left.
     #[error("out of memory")]
     Memory,
@@ -31,8 +39,13 @@ impl Refusal {
     {
         match self {
             Refusal::Words(_) => 2,
-            Refusal::Stripe(StripeFault::Memory) | Refusal::Memory => 9,
-            Refusal::Stripe(_) | Refusal::NoSuchPosition(_) => 5,
+            Refusal::Stripe(StripeFault::Memory)
+            | Refusal::Segment(SegmentFault::Memory)
+            | Refusal::Memory => 9,
+            Refusal::Stripe(_)
+            | Refusal::NoSuchPosition(_)
+            | Refusal::Segment(_)
+            | Refusal::NotInSequence => 5,
         }
     }
 
@@ -42,18 +55,13 @@ impl Refusal {
     {
         match self {
             Refusal::Words(place) => line_with(alloc, b"error words ", *place as u64),
-            Refusal::Stripe(StripeFault::ZeroWeight(position)) => {
-                line_with(alloc, b"error 21 ZeroWeight ", *position as u64)
-            }
-            Refusal::Stripe(StripeFault::PeriodTooLarge(period)) => {
-                line_with(alloc, b"error 16 PeriodTooLarge ", *period)
-            }
+            Refusal::Stripe(fault) => stripe_line(alloc, fault),
             Refusal::NoSuchPosition(position) => {
                 line_with(alloc, b"error 22 NoSuchPosition ", *position as u64)
             }
-            Refusal::Stripe(StripeFault::Memory) | Refusal::Memory => {
-                Ok(Vec::from_slice(alloc, b"error memory\n")?)
-            }
+            Refusal::Segment(fault) => segment_line(alloc, fault),
+            Refusal::NotInSequence => Ok(Vec::from_slice(alloc, b"error 15 NotInSequence\n")?),
+            Refusal::Memory => Ok(Vec::from_slice(alloc, b"error memory\n")?),
         }
     }
 }
@@ -80,16 +88,44 @@ impl From<BaseFault> for Refusal {
     }
 }
 
-impl From<StripeFault> for Refusal {
-    ghost use Rattle.ld_run.specs.StripeRefusal.{refusal_of};
+impl From<WordsFault> for Refusal {
+    ghost use Rattle.ld_run.specs.Faults.{of_words};
     ghost use Rattle.std.specs.Prelude.{◌≡◌};
 
-    ghost from_gives = { λ fault refusal. refusal ≡ refusal_of fault };
+    ghost from_gives = { λ fault refusal. refusal ≡ of_words fault };
+
+    fn from(fault: WordsFault) -> Refusal {
+        match fault {
+            WordsFault::Refused(place) => Refusal::Words(place),
+            WordsFault::Memory => Refusal::Memory,
+        }
+    }
+}
+
+impl From<StripeFault> for Refusal {
+    ghost use Rattle.ld_run.specs.Faults.{of_stripe};
+    ghost use Rattle.std.specs.Prelude.{◌≡◌};
+
+    ghost from_gives = { λ fault refusal. refusal ≡ of_stripe fault };
 
     fn from(fault: StripeFault) -> Refusal {
         match fault {
             StripeFault::Memory => Refusal::Memory,
             fault => Refusal::Stripe(fault),
+        }
+    }
+}
+
+impl From<SegmentFault> for Refusal {
+    ghost use Rattle.ld_run.specs.Faults.{of_segment};
+    ghost use Rattle.std.specs.Prelude.{◌≡◌};
+
+    ghost from_gives = { λ fault refusal. refusal ≡ of_segment fault };
+
+    fn from(fault: SegmentFault) -> Refusal {
+        match fault {
+            SegmentFault::Memory => Refusal::Memory,
+            fault => Refusal::Segment(fault),
         }
     }
 }

@@ -1,8 +1,11 @@
-// Pieces of text.
+// Lines of text.
 ghost use Rattle.std.specs.Prelude.{◌≡◌, IfOk};
-ghost use Rattle.ld_run.specs.Refusal.{line_with};
+ghost use Rattle.ld_run.specs.Refusal.{line_with, number_name, segment_line, stripe_line};
 
 use ld_base::{BaseFault, put_number};
+use ld_num::NumFault;
+use ld_segment::SegmentFault;
+use ld_stripe::StripeFault;
 use std::alloc::Global;
 
 // A line of a text and a number behind it.
@@ -13,4 +16,55 @@ pub fn line_with(alloc: Global, text: &[u8], number: u64) -> Result<Vec<u8>, Bas
     put_number(&mut line, number)?;
     line.extend_from_slice(b"\n")?;
     Ok(line)
+}
+
+// The line that says a fault of weights.
+pub fn stripe_line(alloc: Global, fault: &StripeFault) -> Result<Vec<u8>, BaseFault>
+    ensures { IfOk result (λ line. line.items ≡ stripe_line fault.now) }
+{
+    match fault {
+        StripeFault::NoWeights => Ok(Vec::from_slice(alloc, b"error 20 NoWeights\n")?),
+        StripeFault::TooMany => Ok(Vec::from_slice(alloc, b"error 17 TooMany\n")?),
+        StripeFault::ZeroWeight(position) => {
+            line_with(alloc, b"error 21 ZeroWeight ", *position as u64)
+        }
+        StripeFault::PeriodTooLarge(period) => {
+            line_with(alloc, b"error 16 PeriodTooLarge ", *period)
+        }
+        StripeFault::Memory => Ok(Vec::from_slice(alloc, b"error memory\n")?),
+    }
+}
+
+// The line that says a fault of a segment or a sequence.
+pub fn segment_line(alloc: Global, fault: &SegmentFault) -> Result<Vec<u8>, BaseFault>
+    ensures { IfOk result (λ line. line.items ≡ segment_line fault.now) }
+{
+    match fault {
+        SegmentFault::Number { at, fault } => line_with(alloc, number_name(fault), *at as u64),
+        SegmentFault::BelowZero(at) => line_with(alloc, b"error 10 BelowZero ", *at as u64),
+        SegmentFault::NotLess(at) => line_with(alloc, b"error 11 NotLess ", *at as u64),
+        SegmentFault::AboveOne(at) => line_with(alloc, b"error 12 AboveOne ", *at as u64),
+        SegmentFault::Gap(at) => line_with(alloc, b"error 13 Gap ", *at as u64),
+        SegmentFault::FewPoints => Ok(Vec::from_slice(alloc, b"error 14 FewPoints\n")?),
+        SegmentFault::PeriodTooLarge(period) => {
+            line_with(alloc, b"error 16 PeriodTooLarge ", *period)
+        }
+        SegmentFault::TooMany => Ok(Vec::from_slice(alloc, b"error 17 TooMany\n")?),
+        SegmentFault::Memory => Ok(Vec::from_slice(alloc, b"error memory\n")?),
+    }
+}
+
+// The number and the name of a fault of a number, with a space behind it.
+fn number_name(fault: &NumFault) -> &'static [u8]
+    ensures { result.now ≡ number_name fault.now }
+{
+    match fault {
+        NumFault::Empty => b"error 1 Empty ",
+        NumFault::BadDigit => b"error 2 BadDigit ",
+        NumFault::ZeroDenominator => b"error 3 ZeroDenominator ",
+        NumFault::TooLarge => b"error 4 TooLarge ",
+        NumFault::BadUnit => b"error 5 BadUnit ",
+        NumFault::NotWhole => b"error 6 NotWhole ",
+        NumFault::Memory => b"error memory ",
+    }
 }

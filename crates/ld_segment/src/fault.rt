@@ -11,10 +11,7 @@ use thiserror::Error;
 pub enum SegmentFault {
     /// The value at this place is no fraction.
     #[error("the value at place {at} is refused: {fault}")]
-    Number {
-        at: usize,
-        fault: NumFault,
-    },
+    Number { at: usize, fault: NumFault },
     /// The value at this place has a sign.
     #[error("the value at place {0} is below zero")]
     BelowZero(usize),

@@ -12,12 +12,7 @@ use std::alloc::{AllocError, Global};
 /// The greatest period that a sequence may have, in indices.
 const GREATEST_PERIOD: u64 = 100_000;
 
-/// The weights of the positions between points that cut the whole test, in order: the length of
-/// each position, times the period. The period is the least common multiple of the denominators of
-/// the lengths. It is the sum of the weights, and no number but 1 divides all of them.
-///
-/// Refused is a period of more than 100,000, with its number, or 2^64 - 1 where it is more than
-/// that. The only other error is want of memory.
+// The weights of the positions between points that cut the whole test, in order.
 pub fn weights_of(alloc: Global, points: &[Frac]) -> Result<Vec<u64>, SegmentFault>
     requires filled { IsFilled points.now }
     ensures weights { IfOk result (λ weights. HasWeights points.now (sum weights.items) weights.items) }

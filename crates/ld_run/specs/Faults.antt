@@ -1,0 +1,31 @@
+-- Faults of the crates below as refusals of the words. Want of memory stands alone.
+use Rattle.ld_segment.specs.declared.fault.SegmentFault.{SegmentFault}
+use Rattle.ld_segment.specs.declared.fault.SegmentFault.TheVariants as cuts
+use Rattle.ld_stripe.specs.declared.fault.StripeFault.{StripeFault}
+use Rattle.ld_stripe.specs.declared.fault.StripeFault.TheVariants as stripes
+use Rattle.ld_words.specs.declared.fault.WordsFault.{WordsFault}
+use Rattle.ld_words.specs.declared.fault.WordsFault.TheVariants as words
+use Rattle.ld_run.specs.declared.refusal.Refusal.{Refusal}
+use Rattle.ld_run.specs.declared.refusal.Refusal.TheVariants.{Words, Stripe, Segment, Memory}
+
+abbrev pub of_words : WordsFault → Refusal
+of_words (words.Refused place) = Words place
+of_words words.Memory = Memory
+
+abbrev pub of_stripe : StripeFault → Refusal
+of_stripe stripes.NoWeights = Stripe stripes.NoWeights
+of_stripe stripes.TooMany = Stripe stripes.TooMany
+of_stripe (stripes.ZeroWeight position) = Stripe (stripes.ZeroWeight position)
+of_stripe (stripes.PeriodTooLarge period) = Stripe (stripes.PeriodTooLarge period)
+of_stripe stripes.Memory = Memory
+
+abbrev pub of_segment : SegmentFault → Refusal
+of_segment (cuts.Number at fault) = Segment (cuts.Number at fault)
+of_segment (cuts.BelowZero at) = Segment (cuts.BelowZero at)
+of_segment (cuts.NotLess at) = Segment (cuts.NotLess at)
+of_segment (cuts.AboveOne at) = Segment (cuts.AboveOne at)
+of_segment (cuts.Gap at) = Segment (cuts.Gap at)
+of_segment cuts.FewPoints = Segment cuts.FewPoints
+of_segment (cuts.PeriodTooLarge period) = Segment (cuts.PeriodTooLarge period)
+of_segment cuts.TooMany = Segment cuts.TooMany
+of_segment cuts.Memory = Memory

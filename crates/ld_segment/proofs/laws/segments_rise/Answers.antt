@@ -1,0 +1,5 @@
+use Rattle.ld_segment.proofs.FillingLemmas as lemmas
+use Rattle.ld_segment.proofs.laws.segments_rise.Goals as goal
+
+pub returns : goal.returns
+returns c = lemmas.segments_rise
