@@ -1,13 +1,12 @@
 -- Points that are filled up.
-use Rattle.std.proofs.Common.{◌≡◌, ◌<◌, ◌≤◌, ◌+◌, ◌-◌, ◌*◌, ◌∙◌, ◌∷◌, ◌++◌, [], ℕ, zero, suc, List, Bool, true, false, length, get_or, take, arith, ap, ap₂, sym, subst, refl, nat_eq, length-append, append_assoc, append-nil}
+use Rattle.std.proofs.Common.{◌≡◌, ◌<◌, ◌≤◌, ◌+◌, ◌-◌, ◌*◌, ◌∙◌, ◌∷◌, ◌++◌, [], ℕ, zero, suc, List, Bool, true, false, length, get_or, arith, ap, ap₂, sym, subst, refl, nat_eq, length-append, append_assoc, append-nil}
 use Rattle.std.specs.Prelude.{Some, not, slice_get, if◌then◌else◌}
-use Rattle.std.specs.List.{AllByRecursion}
 use Rattle.std.proofs.Math.Decide.{dec_lt}
 use Rattle.std.proofs.Math.Nat.{lt_of_mul-lt-mul_right, mul-lt-mul_of_pos_right}
 use Rattle.std.proofs.lemmas.Bool.Decides.{nat_tests}
 use Rattle.std.proofs.lemmas.Option.{slice_get_within}
 use Rattle.ld_num.specs.declared.fraction.Frac.{Frac}
-use Rattle.ld_segment.specs.Points.{IsAtMostOne, IsBelow, IsFilled, IsZero, IsOne, Rise, BeginsAtZero, EndsAtOne}
+use Rattle.ld_segment.specs.Points.{IsAtMostOne, IsBelow, IsFilled, Rise, BeginsAtZero, EndsAtOne}
 use Rattle.ld_segment.specs.Segments.{filled, lacking_behind, lacking_front, most_segments, one_point, segments_of, zero_point, IsSequence}
 use Rattle.ld_segment.specs.Refusal.{AreAtMostOne}
 use Rattle.ld_segment.proofs.RiseLemmas.{all_at, rise_at}

@@ -1,16 +1,14 @@
 -- Values, and the points that they are written for.
-use Rattle.std.proofs.Common.{◌≡◌, ◌≢◌, ◌<◌, ◌≤◌, ◌+◌, ◌-◌, ◌*◌, ◌∙◌, ◌∷◌, ◌++◌, [], ℕ, zero, suc, List, Bool, true, false, Bor, length, get_or, take, map, arith, ap, ap₂, sym, subst, refl, inl, inr, append_assoc}
-use Rattle.std.specs.Prelude.{◌⊎◌, Some, None, Option, Result, Ok, Err, slice_get}
-use Rattle.std.specs.Int.{IsInRange}
+use Rattle.std.proofs.Common.{◌≡◌, ◌<◌, ◌+◌, ◌*◌, ◌∙◌, ◌∷◌, ◌++◌, [], ℕ, zero, suc, List, Bor, length, get_or, take, map, arith, ap, ap₂, sym, subst, refl, append_assoc}
+use Rattle.std.specs.Prelude.{Some, Ok, slice_get}
 use Rattle.std.specs.Str.Parse.{IsNumeral}
 use Rattle.std.specs.Option.{option_map}
 use Rattle.std.proofs.lemmas.List.{length-map}
 use Rattle.std.proofs.lemmas.Option.{get_or_from_slice_get, slice_get-get_or, slice_get-map}
 use Rattle.std.proofs.Math.Nat.{eq_of_mul-eq-mul_left}
 use Rattle.std.proofs.lemmas.Str.Parse.{digit_at}
-use Rattle.ld_num.specs.Written.{Amount, Whole, Decimal, Written, Quotient, Plain, Percentage, AmountInDigits, IsWritten, InDigits, amount_spelling, spelling, numerator, denominator, point, stroke, percent_sign}
+use Rattle.ld_num.specs.Written.{Amount, Whole, Decimal, Written, Quotient, Plain, Percentage, AmountInDigits, InDigits, amount_spelling, spelling, numerator, denominator, point, stroke, percent_sign}
 use Rattle.ld_num.specs.Reading.{IsValueOf, IsRefusal}
-use Rattle.ld_num.specs.Shape.{shape_of}
 use Rattle.ld_num.specs.declared.fraction.Frac.{Frac}
 use Rattle.ld_num.specs.declared.fault.NumFault.{NumFault}
 use Rattle.ld_num.proofs.FractionLemmas.{same_denominator, same_numerator}

@@ -1,4 +1,4 @@
-use Rattle.std.proofs.Common.{◌<◌, length, arith, refl}
+use Rattle.std.proofs.Common.{arith, refl}
 use Rattle.ld_segment.specs.Segments.{lacking_behind, lacking_front}
 use Rattle.ld_segment.proofs.FillingLemmas.{behind_short, filled_again, filled_is, front_short}
 use Rattle.ld_segment.proofs.laws.filled_points.Goals as goal
