@@ -6,3 +6,4 @@ pub mod PartLemmas
 pub mod RefusalLemmas
 pub mod PrintLemmas
 pub mod ReadBackLemmas
+pub mod OneRefusalLemmas

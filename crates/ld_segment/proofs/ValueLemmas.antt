@@ -86,7 +86,7 @@ run_some : (digits more : List ℕ) → IsNumeral 10 digits → digits ++ more �
 run_some [] more is none = absurd (let some = is.0 in omega arith)
 run_some (d ∷ ds) more is none = cc
 
-number_some : (written : Written) → InDigits written → spelling written ≡ [] → ⊥
+pub number_some : (written : Written) → InDigits written → spelling written ≡ [] → ⊥
 number_some (Quotient over under) is none = run_some over (stroke ∷ under) is.0 none
 number_some (Plain (Whole digits)) is none = let some = is.0 in let long : length digits ≡ 0 = ap length none in absurd (omega arith)
 number_some (Plain (Decimal whole part)) is none = run_some whole (point ∷ part) is.0 none
@@ -110,7 +110,7 @@ value_not_refused value place p is (PeriodTooLarge period) refused = refused
 value_not_refused value place p is TooMany refused = refused
 value_not_refused value place p is Memory refused = refused
 
-value_at : (values : List (List ℕ)) (ps : List Frac) (i : ℕ) (value : List ℕ) → ArePoints values ps →
+pub value_at : (values : List (List ℕ)) (ps : List Frac) (i : ℕ) (value : List ℕ) → ArePoints values ps →
     slice_get values i ≡ Some value → (p : Frac) × IsPoint value p
 value_at [] ps i value are is = absurd (let e : ⊥ = cc in e)
 value_at (v ∷ vs) [] i value are is = absurd are

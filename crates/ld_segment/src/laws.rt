@@ -6,7 +6,7 @@ ghost use Rattle.ld_segment.specs.Points.{IsAtMostOne, IsBelow, IsFilled};
 ghost use Rattle.ld_segment.specs.Segments.{filled, segments_of, IsSequence};
 ghost use Rattle.ld_segment.specs.Values.{segment_values, sequence_values, ArePoints};
 ghost use Rattle.ld_segment.specs.Printed.{segment_text, sequence_text, IsShort};
-ghost use Rattle.ld_segment.specs.Refusal.{IsSegmentRefusal, IsSequenceRefusal};
+ghost use Rattle.ld_segment.specs.Refusal.{IsPartsRefusal, IsSegmentRefusal, IsSequenceRefusal};
 ghost use Rattle.ld_segment.specs.declared.fault.SegmentFault.{SegmentFault};
 ghost use Rattle.ld_segment.specs.declared.segment.Segment.{Segment};
 
@@ -39,6 +39,13 @@ pub fn one_position()
 /// Values are written for one list of points at most.
 pub fn one_reading()
     ensures { (values : List (List ℕ)) (a b : List Frac) → ArePoints values a → ArePoints values b → a ≡ b }
+{}
+
+/// What is refused is refused with one fault, so the order in which it is looked at decides each.
+pub fn one_refusal()
+    ensures segment { (text : List ℕ) (f g : SegmentFault) → IsSegmentRefusal text f → IsSegmentRefusal text g → f ≡ g }
+    ensures sequence { (text : List ℕ) (f g : SegmentFault) → IsSequenceRefusal text f → IsSequenceRefusal text g → f ≡ g }
+    ensures parts { (parts : List Segment) (f g : SegmentFault) → IsPartsRefusal parts f → IsPartsRefusal parts g → f ≡ g }
 {}
 
 /// What is printed of a segment whose numbers have nine digits at most is accepted, and reads again as

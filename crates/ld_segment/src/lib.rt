@@ -13,8 +13,8 @@ mod value;
 
 pub use fault::SegmentFault;
 pub use laws::{
-    filled_points, one_position, one_reading, segments_meet, segments_read_back, segments_rise,
-    sequences_read_back,
+    filled_points, one_position, one_reading, one_refusal, segments_meet, segments_read_back,
+    segments_rise, sequences_read_back,
 };
 pub use segment::Segment;
 pub use sequence::Sequence;
