@@ -1,19 +1,18 @@
 -- What is refused is refused with one fault.
-use Rattle.std.proofs.Common.{◌≡◌, ◌≢◌, ◌<◌, ◌≤◌, ◌+◌, ◌∙◌, ◌∷◌, [], ℕ, zero, suc, List, length, map, take, arith, ap, ap₂, sym, subst, refl, inl, inr}
-use Rattle.std.specs.Prelude.{◌⊎◌, Some, None, slice_get}
+use Rattle.std.proofs.Common.{◌≡◌, ◌≢◌, ◌<◌, ◌≤◌, ◌+◌, ◌∙◌, ◌∷◌, [], ℕ, zero, suc, List, length, take, arith, ap, sym, subst, refl, inl, inr}
+use Rattle.std.specs.Prelude.{◌⊎◌, Some, slice_get}
 use Rattle.std.proofs.Math.Decide.{dec_lt}
 use Rattle.std.proofs.lemmas.List.{take-take}
-use Rattle.ld_num.specs.Written.{Written, IsWritten, denominator, longest_run}
-use Rattle.ld_num.specs.Reading.{IsRefusal, most_digits}
+use Rattle.ld_num.specs.Written.{Written, IsWritten, longest_run}
+use Rattle.ld_num.specs.Reading.{IsRefusal}
 use Rattle.ld_num.specs.declared.fraction.Frac.{Frac}
 use Rattle.ld_num.specs.declared.fault.NumFault.{NumFault}
 use Rattle.ld_num.specs.declared.fault.NumFault.TheVariants.{Empty, BadDigit, ZeroDenominator, TooLarge, BadUnit, NotWhole}
 use Rattle.ld_num.specs.declared.fault.NumFault.TheVariants as num
 use Rattle.ld_num.proofs.ShapeLemmas.{has_shape}
 use Rattle.ld_segment.specs.Points.{IsAtMostOne, Rise}
-use Rattle.ld_segment.specs.Segments.{segments_of}
-use Rattle.ld_segment.specs.Values.{ArePoints, IsSigned, segment_values, sequence_values}
-use Rattle.ld_segment.specs.Refusal.{AreAtMostOne, EndsAt, HaveTooMany, IsPartsRefusal, IsSegmentRefusal, IsSequenceRefusal, Meet, RefusesFirst, RefusesPoints, RefusesSequence, RefusesValue, ends}
+use Rattle.ld_segment.specs.Values.{IsSigned, segment_values, sequence_values}
+use Rattle.ld_segment.specs.Refusal.{AreAtMostOne, EndsAt, IsPartsRefusal, IsSegmentRefusal, IsSequenceRefusal, Meet, RefusesFirst, RefusesPoints, RefusesSequence, RefusesValue}
 use Rattle.ld_segment.specs.declared.segment.Segment.{Segment}
 use Rattle.ld_segment.specs.declared.fault.SegmentFault.{SegmentFault}
 use Rattle.ld_segment.specs.declared.fault.SegmentFault.TheVariants.{Number, BelowZero, NotLess, AboveOne, Gap, FewPoints, PeriodTooLarge, TooMany, Memory}
