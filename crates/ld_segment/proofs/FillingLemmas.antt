@@ -370,3 +370,27 @@ filled_short ps short =
     let front = front_short ps in
     let behind = behind_short ps in
     omega arith
+
+-- segments stay where points are added
+segments_before : (ps more : List Frac) (k : ℕ) (s : Frac × Frac) → slice_get (segments_of ps) k ≡ Some s →
+    slice_get (segments_of (ps ++ more)) k ≡ Some s
+segments_before [] more k s is = cc
+segments_before (p ∷ []) more k s is = cc
+segments_before (p ∷ q ∷ ps) more zero s is = is
+segments_before (p ∷ q ∷ ps) more (suc k) s is = segments_before (q ∷ ps) more k s is
+
+pub segments_kept : (ps : List Frac) (k : ℕ) (s : Frac × Frac) → slice_get (segments_of ps) k ≡ Some s →
+    slice_get (segments_of (filled ps)) (length (lacking_front ps) + k) ≡ Some s
+segments_kept [] k s is = cc
+segments_kept (p ∷ ps) k s is = decided (nat_eq p.num 0) refl
+  where
+    decided : (b : Bool) → nat_eq p.num 0 ≡ b →
+        slice_get (segments_of (filled (p ∷ ps))) (length (lacking_front (p ∷ ps)) + k) ≡ Some s
+    decided true front =
+        rw front
+        (subst (λ n. slice_get (segments_of ((p ∷ ps) ++ lacking_behind (p ∷ ps))) n ≡ Some s) (let e : k ≡ 0 + k = omega arith in e)
+        (segments_before (p ∷ ps) (lacking_behind (p ∷ ps)) k s is))
+    decided false front =
+        rw front
+        (subst (λ n. slice_get (segments_of (zero_point ∷ ((p ∷ ps) ++ lacking_behind (p ∷ ps)))) n ≡ Some s) (let e : suc k ≡ 1 + k = omega arith in e)
+        (segments_before (p ∷ ps) (lacking_behind (p ∷ ps)) k s is))

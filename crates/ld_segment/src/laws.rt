@@ -3,7 +3,7 @@ ghost use Rattle.std.specs.Prelude.{◌≡◌, ◌<◌, ◌≤◌, ◌+◌, ◌+
 ghost use Rattle.std.specs.List.{AllByRecursion};
 ghost use Rattle.ld_num.specs.declared.fraction.Frac.{Frac};
 ghost use Rattle.ld_segment.specs.Points.{IsAtMostOne, IsBelow, IsFilled};
-ghost use Rattle.ld_segment.specs.Segments.{filled, segments_of, IsSequence};
+ghost use Rattle.ld_segment.specs.Segments.{filled, lacking_front, segments_of, IsSequence};
 ghost use Rattle.ld_segment.specs.Values.{segment_values, sequence_values, ArePoints};
 ghost use Rattle.ld_segment.specs.Printed.{segment_text, sequence_text, IsShort};
 ghost use Rattle.ld_segment.specs.Refusal.{IsPartsRefusal, IsSegmentRefusal, IsSequenceRefusal};
@@ -11,11 +11,14 @@ ghost use Rattle.ld_segment.specs.declared.fault.SegmentFault.{SegmentFault};
 ghost use Rattle.ld_segment.specs.declared.segment.Segment.{Segment};
 
 /// A filled sequence begins at 0 and ends at 1. It keeps the given points next to each other and in
-/// order, with one point more at each side at most, and adds none where it is whole already.
+/// order, with one point more at each side at most, and adds none where it is whole already. So each
+/// segment stands in it, behind the one that is added in front.
 pub fn filled_points()
     ensures whole { (points : List Frac) → IsSequence points → IsFilled (filled points) }
     ensures kept { (points : List Frac) → (front : List Frac) × ((behind : List Frac) × (filled points ≡ front ++ points ++ behind) × (length front ≤ 1) × (length behind ≤ 1)) }
     ensures once { (points : List Frac) → IsFilled points → filled points ≡ points }
+    ensures segments { (points : List Frac) (k : ℕ) (s : Frac × Frac) → slice_get (segments_of points) k ≡ Some s →
+        slice_get (segments_of (filled points)) (length (lacking_front points) + k) ≡ Some s }
 {}
 
 /// Each segment begins where the one before it ends.
