@@ -1,13 +1,12 @@
 -- Points that are filled up.
-use Rattle.std.proofs.Common.{◌≡◌, ◌<◌, ◌≤◌, ◌+◌, ◌-◌, ◌*◌, ◌∙◌, ◌∷◌, ◌++◌, [], ℕ, zero, suc, List, Bool, true, false, length, get_or, take, arith, ap, ap₂, sym, subst, refl, nat_eq, length-append, append_assoc, append-nil}
+use Rattle.std.proofs.Common.{◌≡◌, ◌<◌, ◌≤◌, ◌+◌, ◌-◌, ◌*◌, ◌∙◌, ◌∷◌, ◌++◌, [], ℕ, zero, suc, List, Bool, true, false, length, get_or, arith, ap, ap₂, sym, subst, refl, nat_eq, length-append, append_assoc, append-nil}
 use Rattle.std.specs.Prelude.{Some, not, slice_get, if◌then◌else◌}
-use Rattle.std.specs.List.{AllByRecursion}
 use Rattle.std.proofs.Math.Decide.{dec_lt}
 use Rattle.std.proofs.Math.Nat.{lt_of_mul-lt-mul_right, mul-lt-mul_of_pos_right}
 use Rattle.std.proofs.lemmas.Bool.Decides.{nat_tests}
 use Rattle.std.proofs.lemmas.Option.{slice_get_within}
 use Rattle.ld_num.specs.declared.fraction.Frac.{Frac}
-use Rattle.ld_segment.specs.Points.{IsAtMostOne, IsBelow, IsFilled, IsZero, IsOne, Rise, BeginsAtZero, EndsAtOne}
+use Rattle.ld_segment.specs.Points.{IsAtMostOne, IsBelow, IsFilled, Rise, BeginsAtZero, EndsAtOne}
 use Rattle.ld_segment.specs.Segments.{filled, lacking_behind, lacking_front, most_segments, one_point, segments_of, zero_point, IsSequence}
 use Rattle.ld_segment.specs.Refusal.{AreAtMostOne}
 use Rattle.ld_segment.proofs.RiseLemmas.{all_at, rise_at}
@@ -371,3 +370,27 @@ filled_short ps short =
     let front = front_short ps in
     let behind = behind_short ps in
     omega arith
+
+-- segments stay where points are added
+segments_before : (ps more : List Frac) (k : ℕ) (s : Frac × Frac) → slice_get (segments_of ps) k ≡ Some s →
+    slice_get (segments_of (ps ++ more)) k ≡ Some s
+segments_before [] more k s is = cc
+segments_before (p ∷ []) more k s is = cc
+segments_before (p ∷ q ∷ ps) more zero s is = is
+segments_before (p ∷ q ∷ ps) more (suc k) s is = segments_before (q ∷ ps) more k s is
+
+pub segments_kept : (ps : List Frac) (k : ℕ) (s : Frac × Frac) → slice_get (segments_of ps) k ≡ Some s →
+    slice_get (segments_of (filled ps)) (length (lacking_front ps) + k) ≡ Some s
+segments_kept [] k s is = cc
+segments_kept (p ∷ ps) k s is = decided (nat_eq p.num 0) refl
+  where
+    decided : (b : Bool) → nat_eq p.num 0 ≡ b →
+        slice_get (segments_of (filled (p ∷ ps))) (length (lacking_front (p ∷ ps)) + k) ≡ Some s
+    decided true front =
+        rw front
+        (subst (λ n. slice_get (segments_of ((p ∷ ps) ++ lacking_behind (p ∷ ps))) n ≡ Some s) (let e : k ≡ 0 + k = omega arith in e)
+        (segments_before (p ∷ ps) (lacking_behind (p ∷ ps)) k s is))
+    decided false front =
+        rw front
+        (subst (λ n. slice_get (segments_of (zero_point ∷ ((p ∷ ps) ++ lacking_behind (p ∷ ps)))) n ≡ Some s) (let e : suc k ≡ 1 + k = omega arith in e)
+        (segments_before (p ∷ ps) (lacking_behind (p ∷ ps)) k s is))

@@ -10,3 +10,4 @@ pub mod WeightsLengthLemmas
 pub mod WeightsPeriodLemmas
 pub mod WeightsLemmas
 pub mod WeightsFaultLemmas
+pub mod OneRefusalLemmas

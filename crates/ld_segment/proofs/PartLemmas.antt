@@ -1,6 +1,5 @@
 -- Segments that are put together.
-use Rattle.std.proofs.Common.{◌≡◌, ◌≢◌, ◌<◌, ◌≤◌, ◌+◌, ◌-◌, ◌*◌, ◌∙◌, ◌∷◌, [], ℕ, zero, suc, List, length, drop, get_or, map, arith, ap, ap₂, sym, subst, refl}
-use Rattle.std.specs.List.{AllByRecursion}
+use Rattle.std.proofs.Common.{◌≡◌, ◌<◌, ◌≤◌, ◌*◌, ◌∙◌, ◌∷◌, [], List, length, drop, get_or, map, arith, ap, ap₂, sym, subst, refl}
 use Rattle.std.proofs.Math.Nat.{lt_of_mul-lt-mul_right, mul-le-mul_left}
 use Rattle.ld_num.specs.declared.fraction.Frac.{Frac}
 use Rattle.ld_segment.specs.Points.{IsAtMostOne, IsBelow, Rise}
@@ -93,3 +92,15 @@ segment_sequence s = record {
   at_most_one = (below_one s.from s.to s.rises s.within, (s.within, tt));
   few = filled_short (s.from ∷ s.to ∷ []) (omega arith);
 }
+
+-- segments that lie between points meet
+pub segments_meet_parts : (parts : List Segment) (points : List Frac) → segments_of points ≡ map ends parts → Meet parts
+segments_meet_parts [] points same = tt
+segments_meet_parts (s ∷ []) points same = tt
+segments_meet_parts (s ∷ t ∷ parts) [] same = absurd (let e : ⊥ = cc in e)
+segments_meet_parts (s ∷ t ∷ parts) (p ∷ []) same = absurd (let e : ⊥ = cc in e)
+segments_meet_parts (s ∷ t ∷ parts) (p ∷ q ∷ []) same = absurd (let e : ⊥ = cc in e)
+segments_meet_parts (s ∷ t ∷ parts) (p ∷ q ∷ r ∷ points) same = (
+  ap (λ (l : List (Frac × Frac)). (get_or l 0 (p, q)).1) (sym same) ∙ ap (λ (l : List (Frac × Frac)). (get_or l 1 (p, q)).0) same,
+  segments_meet_parts (t ∷ parts) (q ∷ r ∷ points) (ap (λ (l : List (Frac × Frac)). drop 1 l) same),
+)

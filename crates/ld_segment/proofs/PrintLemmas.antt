@@ -1,5 +1,5 @@
 -- How far the printing of points has come.
-use Rattle.std.proofs.Common.{◌≡◌, ◌<◌, ◌+◌, ◌∙◌, ◌∷◌, ◌++◌, [], ℕ, zero, suc, List, Bool, true, length, get_or, take, arith, ap, sym, subst, refl, append_assoc, nat_lt}
+use Rattle.std.proofs.Common.{◌≡◌, ◌<◌, ◌+◌, ◌∙◌, ◌∷◌, ◌++◌, [], ℕ, zero, suc, List, true, length, get_or, take, arith, ap, sym, refl, append_assoc, nat_lt}
 use Rattle.std.proofs.lemmas.Bool.Decides.{nat_tests}
 use Rattle.ld_num.specs.declared.fraction.Frac.{Frac}
 use Rattle.ld_segment.specs.Values.{comma}

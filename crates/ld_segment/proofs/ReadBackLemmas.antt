@@ -1,8 +1,8 @@
 -- What is printed reads again as the same value.
-use Rattle.std.proofs.Common.{◌≡◌, ◌≢◌, ◌<◌, ◌≤◌, ◌+◌, ◌-◌, ◌*◌, ◌^◌, ◌∙◌, ◌∷◌, ◌++◌, [], ℕ, suc, List, Bool, true, false, length, get_or, take, drop, map, arith, ap, sym, subst, refl, nat_eq, nat_lt, length-append}
-use Rattle.std.specs.Prelude.{decimal, max}
+use Rattle.std.proofs.Common.{◌≡◌, ◌<◌, ◌≤◌, ◌+◌, ◌*◌, ◌^◌, ◌∙◌, ◌∷◌, ◌++◌, [], ℕ, List, Bool, true, false, length, take, drop, map, arith, ap, sym, subst, refl, nat_eq, nat_lt, length-append}
+use Rattle.std.specs.Prelude.{decimal}
 use Rattle.std.specs.Int.{IsInRange}
-use Rattle.std.specs.List.{All, AllByRecursion, before_first, after_first, position_or_len, slice_split}
+use Rattle.std.specs.List.{All, AllByRecursion, before_first, after_first, position_or_len}
 use Rattle.std.specs.Str.Parse.{AllDigits, IsNumeral, digits_value}
 use Rattle.std.proofs.Math.Seq.{drop-append-add, get_or-append_seam, take-append_seam}
 use Rattle.std.proofs.lemmas.List.{get_or_append_left}
@@ -12,8 +12,7 @@ use Rattle.std.proofs.lemmas.Bool.Decides.{nat_tests}
 use Rattle.std.proofs.lemmas.Fmt.{decimal_is_IsNumeral, length-decimal-le}
 use Rattle.std.proofs.lemmas.List.Splits.{slice_split_at, slice_split_none}
 use Rattle.std.proofs.lemmas.Str.Parse.{digit_from_value}
-use Rattle.ld_num.specs.Written.{Whole, Written, Quotient, Plain, IsWritten, denominator, longest_run, numerator, stroke}
-use Rattle.ld_num.specs.Reading.{IsValueOf}
+use Rattle.ld_num.specs.Written.{Whole, Quotient, Plain, stroke}
 use Rattle.ld_num.specs.Shape.{has}
 use Rattle.ld_num.specs.declared.fraction.Frac.{Frac}
 use Rattle.ld_segment.specs.Values.{ArePoints, IsPoint, colon, comma, segment_values, sequence_values}

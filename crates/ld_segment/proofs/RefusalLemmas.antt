@@ -1,9 +1,9 @@
 -- What is accepted isn't refused.
-use Rattle.std.proofs.Common.{◌≡◌, ◌≢◌, ◌<◌, ◌≤◌, ◌+◌, ◌∙◌, ◌∷◌, [], ℕ, List, length, map, arith, ap, sym, subst, inl, inr}
-use Rattle.std.specs.Prelude.{◌⊎◌, Result, Ok, Err, IfOk}
+use Rattle.std.proofs.Common.{◌≡◌, ◌≢◌, ◌<◌, ◌+◌, ◌∙◌, [], ℕ, List, length, map, arith, ap, sym, subst, inl, inr}
+use Rattle.std.specs.Prelude.{Result, Ok, Err, IfOk}
 use Rattle.ld_num.specs.declared.fraction.Frac.{Frac}
 use Rattle.ld_segment.specs.Points.{Rise}
-use Rattle.ld_segment.specs.Segments.{filled, most_segments, segments_of, IsSequence}
+use Rattle.ld_segment.specs.Segments.{segments_of, IsSequence}
 use Rattle.ld_segment.specs.Values.{ArePoints, segment_values, sequence_values}
 use Rattle.ld_segment.specs.Refusal.{AreAtMostOne, Meet, HaveTooMany, IsPartsRefusal, IsSegmentRefusal, IsSequenceRefusal, RefusesPoints, RefusesSequence, ends}
 use Rattle.ld_segment.specs.declared.segment.Segment.{Segment}

@@ -21,7 +21,7 @@ all_here P [] i d below all = absurd (omega arith)
 all_here P (x ∷ xs) zero d below all = all.0
 all_here P (x ∷ xs) (suc i) d below all = all_here P xs i d (omega arith) all.1
 
-all_front : {X : Type 0} (P : X → Type 0) (xs : List X) (i : ℕ) → AllByRecursion P xs → AllByRecursion P (take i xs)
+pub all_front : {X : Type 0} (P : X → Type 0) (xs : List X) (i : ℕ) → AllByRecursion P xs → AllByRecursion P (take i xs)
 all_front P [] zero all = tt
 all_front P [] (suc i) all = tt
 all_front P (x ∷ xs) zero all = tt
@@ -60,7 +60,7 @@ rise_here (p ∷ []) i d e below rise = absurd (omega arith)
 rise_here (p ∷ q ∷ ps) zero d e below rise = rise.0
 rise_here (p ∷ q ∷ ps) (suc i) d e below rise = rise_here (q ∷ ps) i d e (omega arith) rise.1
 
-rise_front : (ps : List Frac) (i : ℕ) → Rise ps → Rise (take i ps)
+pub rise_front : (ps : List Frac) (i : ℕ) → Rise ps → Rise (take i ps)
 rise_front [] zero rise = tt
 rise_front [] (suc i) rise = tt
 rise_front (p ∷ ps) zero rise = tt

@@ -1,16 +1,14 @@
 -- Values, and the points that they are written for.
-use Rattle.std.proofs.Common.{◌≡◌, ◌≢◌, ◌<◌, ◌≤◌, ◌+◌, ◌-◌, ◌*◌, ◌∙◌, ◌∷◌, ◌++◌, [], ℕ, zero, suc, List, Bool, true, false, Bor, length, get_or, take, map, arith, ap, ap₂, sym, subst, refl, inl, inr, append_assoc}
-use Rattle.std.specs.Prelude.{◌⊎◌, Some, None, Option, Result, Ok, Err, slice_get}
-use Rattle.std.specs.Int.{IsInRange}
+use Rattle.std.proofs.Common.{◌≡◌, ◌<◌, ◌+◌, ◌*◌, ◌∙◌, ◌∷◌, ◌++◌, [], ℕ, zero, suc, List, Bor, length, get_or, take, map, arith, ap, ap₂, sym, subst, refl, append_assoc}
+use Rattle.std.specs.Prelude.{Some, Ok, slice_get}
 use Rattle.std.specs.Str.Parse.{IsNumeral}
 use Rattle.std.specs.Option.{option_map}
 use Rattle.std.proofs.lemmas.List.{length-map}
 use Rattle.std.proofs.lemmas.Option.{get_or_from_slice_get, slice_get-get_or, slice_get-map}
 use Rattle.std.proofs.Math.Nat.{eq_of_mul-eq-mul_left}
 use Rattle.std.proofs.lemmas.Str.Parse.{digit_at}
-use Rattle.ld_num.specs.Written.{Amount, Whole, Decimal, Written, Quotient, Plain, Percentage, AmountInDigits, IsWritten, InDigits, amount_spelling, spelling, numerator, denominator, point, stroke, percent_sign}
+use Rattle.ld_num.specs.Written.{Amount, Whole, Decimal, Written, Quotient, Plain, Percentage, AmountInDigits, InDigits, amount_spelling, spelling, numerator, denominator, point, stroke, percent_sign}
 use Rattle.ld_num.specs.Reading.{IsValueOf, IsRefusal}
-use Rattle.ld_num.specs.Shape.{shape_of}
 use Rattle.ld_num.specs.declared.fraction.Frac.{Frac}
 use Rattle.ld_num.specs.declared.fault.NumFault.{NumFault}
 use Rattle.ld_num.proofs.FractionLemmas.{same_denominator, same_numerator}
@@ -88,7 +86,7 @@ run_some : (digits more : List ℕ) → IsNumeral 10 digits → digits ++ more �
 run_some [] more is none = absurd (let some = is.0 in omega arith)
 run_some (d ∷ ds) more is none = cc
 
-number_some : (written : Written) → InDigits written → spelling written ≡ [] → ⊥
+pub number_some : (written : Written) → InDigits written → spelling written ≡ [] → ⊥
 number_some (Quotient over under) is none = run_some over (stroke ∷ under) is.0 none
 number_some (Plain (Whole digits)) is none = let some = is.0 in let long : length digits ≡ 0 = ap length none in absurd (omega arith)
 number_some (Plain (Decimal whole part)) is none = run_some whole (point ∷ part) is.0 none
@@ -112,7 +110,7 @@ value_not_refused value place p is (PeriodTooLarge period) refused = refused
 value_not_refused value place p is TooMany refused = refused
 value_not_refused value place p is Memory refused = refused
 
-value_at : (values : List (List ℕ)) (ps : List Frac) (i : ℕ) (value : List ℕ) → ArePoints values ps →
+pub value_at : (values : List (List ℕ)) (ps : List Frac) (i : ℕ) (value : List ℕ) → ArePoints values ps →
     slice_get values i ≡ Some value → (p : Frac) × IsPoint value p
 value_at [] ps i value are is = absurd (let e : ⊥ = cc in e)
 value_at (v ∷ vs) [] i value are is = absurd are

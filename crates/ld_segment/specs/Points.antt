@@ -1,5 +1,5 @@
 -- Points of a test: fractions from 0 to 1 at which it is cut.
-use Rattle.std.specs.Prelude.{◌≡◌, ◌<◌, ◌≤◌, ◌*◌, ℕ, List, [], ◌∷◌, length}
+use Rattle.std.specs.Prelude.{◌≡◌, ◌<◌, ◌≤◌, ◌*◌, List, [], ◌∷◌}
 use Rattle.ld_num.specs.Terms.{AreCoprime}
 use Rattle.ld_num.specs.declared.fraction.Frac.{Frac}
 

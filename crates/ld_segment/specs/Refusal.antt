@@ -35,10 +35,11 @@ pub record RefusesFirst (values : List (List ℕ)) (fault : SegmentFault) : Type
   pub before : ArePoints (take place values) points_before
   pub refused : RefusesValue value place fault
 
--- points are refused at the first that is above 1, or else at the first that isn't above the one before it
+-- each point is at most 1
 abbrev pub AreAtMostOne : List Frac → Type 0
 AreAtMostOne points = AllByRecursion IsAtMostOne points
 
+-- points are refused at the first that is above 1, or else at the first that isn't above the one before it
 abbrev pub RefusesPoints : List Frac → SegmentFault → Type 0
 RefusesPoints points (AboveOne at) = EndsAt AreAtMostOne points at
 RefusesPoints points (NotLess at) = AreAtMostOne points × EndsAt Rise points at

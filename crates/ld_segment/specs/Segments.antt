@@ -1,5 +1,5 @@
 -- The segments between points, and how points are filled up to cut the whole test.
-use Rattle.std.specs.Prelude.{◌≡◌, ◌<◌, ◌≤◌, ◌+◌, ◌==◌, ◌++◌, ℕ, List, [], ◌∷◌, Option, Some, None, length, if◌then◌else◌, slice_get}
+use Rattle.std.specs.Prelude.{◌≤◌, ◌==◌, ◌++◌, ℕ, List, [], ◌∷◌, Option, Some, None, length, if◌then◌else◌}
 use Rattle.std.specs.List.{AllByRecursion}
 use Rattle.std.proofs.Math.Dec.{lit≤}
 use Rattle.std.proofs.Math.Nat.{eq-one_of_dvd-one}

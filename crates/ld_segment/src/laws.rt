@@ -3,19 +3,22 @@ ghost use Rattle.std.specs.Prelude.{◌≡◌, ◌<◌, ◌≤◌, ◌+◌, ◌+
 ghost use Rattle.std.specs.List.{AllByRecursion};
 ghost use Rattle.ld_num.specs.declared.fraction.Frac.{Frac};
 ghost use Rattle.ld_segment.specs.Points.{IsAtMostOne, IsBelow, IsFilled};
-ghost use Rattle.ld_segment.specs.Segments.{filled, segments_of, IsSequence};
+ghost use Rattle.ld_segment.specs.Segments.{filled, lacking_front, segments_of, IsSequence};
 ghost use Rattle.ld_segment.specs.Values.{segment_values, sequence_values, ArePoints};
 ghost use Rattle.ld_segment.specs.Printed.{segment_text, sequence_text, IsShort};
-ghost use Rattle.ld_segment.specs.Refusal.{IsSegmentRefusal, IsSequenceRefusal};
+ghost use Rattle.ld_segment.specs.Refusal.{IsPartsRefusal, IsSegmentRefusal, IsSequenceRefusal};
 ghost use Rattle.ld_segment.specs.declared.fault.SegmentFault.{SegmentFault};
 ghost use Rattle.ld_segment.specs.declared.segment.Segment.{Segment};
 
 /// A filled sequence begins at 0 and ends at 1. It keeps the given points next to each other and in
-/// order, with one point more at each side at most, and adds none where it is whole already.
+/// order, with one point more at each side at most, and adds none where it is whole already. So each
+/// segment stands in it, behind the one that is added in front.
 pub fn filled_points()
     ensures whole { (points : List Frac) → IsSequence points → IsFilled (filled points) }
     ensures kept { (points : List Frac) → (front : List Frac) × ((behind : List Frac) × (filled points ≡ front ++ points ++ behind) × (length front ≤ 1) × (length behind ≤ 1)) }
     ensures once { (points : List Frac) → IsFilled points → filled points ≡ points }
+    ensures segments { (points : List Frac) (k : ℕ) (s : Frac × Frac) → slice_get (segments_of points) k ≡ Some s →
+        slice_get (segments_of (filled points)) (length (lacking_front points) + k) ≡ Some s }
 {}
 
 /// Each segment begins where the one before it ends.
@@ -39,6 +42,13 @@ pub fn one_position()
 /// Values are written for one list of points at most.
 pub fn one_reading()
     ensures { (values : List (List ℕ)) (a b : List Frac) → ArePoints values a → ArePoints values b → a ≡ b }
+{}
+
+/// What is refused is refused with one fault, so the order in which it is looked at decides each.
+pub fn one_refusal()
+    ensures segment { (text : List ℕ) (f g : SegmentFault) → IsSegmentRefusal text f → IsSegmentRefusal text g → f ≡ g }
+    ensures sequence { (text : List ℕ) (f g : SegmentFault) → IsSequenceRefusal text f → IsSequenceRefusal text g → f ≡ g }
+    ensures parts { (parts : List Segment) (f g : SegmentFault) → IsPartsRefusal parts f → IsPartsRefusal parts g → f ≡ g }
 {}
 
 /// What is printed of a segment whose numbers have nine digits at most is accepted, and reads again as

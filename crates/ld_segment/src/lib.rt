@@ -15,8 +15,8 @@ mod weights_laws;
 
 pub use fault::SegmentFault;
 pub use laws::{
-    filled_points, one_position, one_reading, segments_meet, segments_read_back, segments_rise,
-    sequences_read_back,
+    filled_points, one_position, one_reading, one_refusal, segments_meet, segments_read_back,
+    segments_rise, sequences_read_back,
 };
 pub use segment::Segment;
 pub use sequence::Sequence;

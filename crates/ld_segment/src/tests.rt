@@ -163,10 +163,10 @@ fn sequences_are_refused(rt: HostRuntime) {
     }
 }
 
-// A text of so many points from a thousandth on.
-fn thousandths(alloc: Global, from: usize, count: usize) -> Result<Vec<u8>, Fail> {
+// A text of the thousandths from one on, below another.
+fn thousandths(alloc: Global, from: usize, end: usize) -> Result<Vec<u8>, Fail> {
     let mut text = Vec::new(alloc);
-    for place in from..from + count {
+    for place in from..end {
         if place > from {
             text.push(b',')?;
         }
@@ -179,17 +179,17 @@ fn thousandths(alloc: Global, from: usize, count: usize) -> Result<Vec<u8>, Fail
 #[test]
 fn sequences_are_short(rt: HostRuntime) -> Result<(), Fail> {
     let alloc = rt.alloc();
-    for (from, count, fits) in [
-        (1, 99, true),
-        (1, 100, false),
+    for (from, end, fits) in [
+        (1, 100, true),
+        (1, 101, false),
         (0, 100, true),
         (0, 101, false),
-        (900, 101, false),
-        (901, 100, true),
+        (900, 1_001, false),
+        (901, 1_001, true),
     ] {
-        let text = thousandths(alloc, from, count)?;
+        let text = thousandths(alloc, from, end)?;
         let found = Sequence::read(alloc, &text);
-        assert_eq!(rt; found.is_ok(), fits, "{count} points from {from}");
+        assert_eq!(rt; found.is_ok(), fits, "from {from} below {end}");
         assert!(rt; fits || matches!(found, Err(SegmentFault::TooMany)));
     }
     Ok(())

@@ -1,4 +1,3 @@
-use Rattle.std.proofs.Common.{sym}
 use Rattle.ld_segment.proofs.FillingLemmas.{last_decides}
 use Rattle.ld_segment.proofs.filling.lack_behind.Goals as goal
 

@@ -1,5 +1,5 @@
 use Rattle.ld_segment.specs.Printed.{sequence_text}
-use Rattle.std.proofs.Common.{◌<◌, length, arith}
+use Rattle.std.proofs.Common.{arith}
 use Rattle.ld_segment.proofs.ReadBackLemmas.{sequence_reads}
 use Rattle.ld_segment.proofs.RefusalLemmas.{sequence_accepted}
 use Rattle.ld_segment.proofs.laws.sequences_read_back.Goals as goal

@@ -1,4 +1,3 @@
-use Rattle.std.proofs.Common.{◌≡◌, ◌<◌, length, sym}
 use Rattle.std.proofs.lemmas.Result.{err_from_is_err_and}
 use Rattle.ld_segment.proofs.ValueLemmas.{points_more_at, refused_at}
 use Rattle.ld_segment.proofs.value.read_values.Goals as goal

@@ -1,6 +1,5 @@
-use Rattle.std.proofs.Common.{◌≡◌, ◌∷◌, [], List, sym, inl, subst}
+use Rattle.std.proofs.Common.{◌∷◌, [], sym, inl, subst}
 use Rattle.std.proofs.lemmas.Result.{err_from_is_err_and}
-use Rattle.ld_num.specs.declared.fraction.Frac.{Frac}
 use Rattle.ld_segment.specs.Values.{ArePoints}
 use Rattle.ld_segment.proofs.ValueLemmas.{second_refused}
 use Rattle.ld_segment.proofs.RefusalLemmas.{segment_accepted}

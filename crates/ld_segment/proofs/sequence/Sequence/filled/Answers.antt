@@ -1,4 +1,4 @@
-use Rattle.std.proofs.Common.{◌≡◌, ◌<◌, ◌∙◌, length, arith, ap, sym, subst}
+use Rattle.std.proofs.Common.{◌∙◌, arith, ap, sym, subst}
 use Rattle.ld_segment.specs.Points.{IsFilled}
 use Rattle.ld_segment.specs.Segments.{filled, IsSequence}
 use Rattle.ld_segment.proofs.FillingLemmas.{filled_is, filled_sequence}

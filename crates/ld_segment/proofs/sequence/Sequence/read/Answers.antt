@@ -1,4 +1,4 @@
-use Rattle.std.proofs.Common.{◌∙◌, ap, sym}
+use Rattle.std.proofs.Common.{◌∙◌, ap}
 use Rattle.ld_segment.proofs.ValueLemmas.{texts}
 use Rattle.ld_segment.proofs.RefusalLemmas.{sequence_read}
 use Rattle.ld_segment.proofs.sequence.Sequence.read.Goals as goal

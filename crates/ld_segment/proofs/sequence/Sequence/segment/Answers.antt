@@ -1,4 +1,4 @@
-use Rattle.std.proofs.Common.{◌≡◌, ◌<◌, ◌+◌, ◌∙◌, suc, length, arith, sym, ap, subst, Fits, w64}
+use Rattle.std.proofs.Common.{arith}
 use Rattle.ld_segment.proofs.FillingLemmas.{below_points, segment_is, segment_rises, segment_within}
 use Rattle.ld_segment.proofs.sequence.Sequence.segment.Goals as goal
 
