@@ -15,8 +15,8 @@ pub struct Frac {
     pub num: u64,
     /// The denominator.
     pub den: u64,
-    ghost positive: { 1 ≤ den },
-    ghost lowest: { AreCoprime num den },
+    pub ghost positive: { 1 ≤ den },
+    pub ghost lowest: { AreCoprime num den },
 }
 
 impl Frac {
