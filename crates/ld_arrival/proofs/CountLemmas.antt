@@ -1,5 +1,5 @@
 -- The planned arrivals are those below their number.
-use Rattle.std.proofs.Common.{◌≡◌, ◌<◌, ◌≤◌, ◌+◌, ◌-◌, ◌*◌, ◌/◌, ◌↔◌, ◌∙◌, ℕ, Bool, true, false, zero, suc, List, [], ◌∷◌, cond, inl, inr, length, nat_lt, arith, refl, ap, sym, subst}
+use Rattle.std.proofs.Common.{◌≡◌, ◌<◌, ◌≤◌, ◌+◌, ◌*◌, ◌/◌, ◌↔◌, ◌∙◌, ℕ, Bool, true, false, zero, suc, [], ◌∷◌, cond, inl, inr, length, nat_lt, arith, refl, ap, sym, subst}
 use Rattle.std.specs.List.{filter, range_with_len}
 use Rattle.std.specs.Int.{div_ceil}
 use Rattle.std.proofs.Math.Nat.{div-lt_iff_lt-mul, mul-le-mul_right, add-mul}
@@ -8,7 +8,7 @@ use Rattle.std.proofs.lemmas.Bool.{lt-ltb, le-ltb}
 use Rattle.std.proofs.lemmas.Grind.{div_ceil_times}
 use Rattle.std.proofs.lemmas.List.FromFn.{length-range_with_len}
 use Rattle.ld_arrival.specs.Timetable.{Timetable, Constant, IsPlanned, moment_of, end_of, planned, planned_count, planned_below}
-use Rattle.ld_arrival.specs.Limits.{IsWithinLimits}
+use Rattle.ld_arrival.specs.Limits.{IsWithinLimits, greatest_duration}
 
 -- a test that no number from a on passes keeps none
 filter_none : (p : ℕ → Bool) (a m : ℕ) → ((k : ℕ) → a ≤ k → p k ≡ false) → filter p (range_with_len a m) ≡ []
@@ -31,18 +31,17 @@ planned_at : (rate unit duration : ℕ) → 0 < rate → 0 < unit → (k : ℕ) 
     (k * unit / rate < duration) ↔ (k < div_ceil (duration * rate) unit)
 planned_at rate unit duration some_rate some_unit k =
     let before = div-lt_iff_lt-mul {k = rate} {x = k * unit} {y = duration} some_rate in
-    let bounds = div_ceil_times (duration * rate) unit some_unit in
-    (
+    let bounds = div_ceil_times (duration * rate) unit some_unit in (
       λ is_before.
-      let part : k * unit < duration * rate = before.0 is_before in
-      elim (dec_lt k (div_ceil (duration * rate) unit)) [
-        | yes below ↦ below
-        | no above ↦ let at_least = mul-le-mul_right {m = div_ceil (duration * rate) unit} {n = k} unit (omega arith) in absurd (omega (arith, bounds))
-      ],
+          let part : k * unit < duration * rate = before.0 is_before in
+          elim (dec_lt k (div_ceil (duration * rate) unit)) [
+            | yes below ↦ below
+            | no above ↦ let at_least = mul-le-mul_right {m = div_ceil (duration * rate) unit} {n = k} unit (omega arith) in absurd (omega (arith, bounds))
+          ],
       λ below. before.1
-      (let more = mul-le-mul_right {m = k + 1} {n = div_ceil (duration * rate) unit} unit (omega arith) in
-      let split = add-mul k 1 unit in
-      omega (arith, bounds))
+          (let more = mul-le-mul_right {m = k + 1} {n = div_ceil (duration * rate) unit} unit (omega arith) in
+          let split = add-mul k 1 unit in
+          omega (arith, bounds)),
     )
 
 -- where the planned arrivals are those below n, they are these n
@@ -87,3 +86,10 @@ pub counted : (timetable : Timetable) → IsWithinLimits timetable → IsCount t
 counted (Constant rate unit duration) limits =
     let is = count_of_constant rate unit duration limits in
     subst (IsCount (Constant rate unit duration)) is.count is
+
+pub ends_within : (timetable : Timetable) → IsWithinLimits timetable → end_of timetable ≤ greatest_duration
+ends_within (Constant rate unit duration) limits =
+    elim (dec_lt greatest_duration duration) [
+      | yes long ↦ absurd (limits.duration (inr (inr long)))
+      | no short ↦ omega arith
+    ]

@@ -1,7 +1,6 @@
 -- What is in a schedule and in the part of a position, and that the parts are the whole.
-use Rattle.std.proofs.Common.{◌≡◌, ◌≢◌, ◌<◌, ◌≤◌, ◌+◌, ◌*◌, ◌/◌, ◌↔◌, ◌∙◌, ℕ, Bool, true, false, zero, suc, List, [], ◌∷◌, ◌++◌, cond, inl, inr, length, map, nat_eq, not, arith, refl, ap, sym, subst, ap₂}
-use Rattle.std.specs.Prelude.{sum}
-use Rattle.std.specs.List.{All, Contains, filter, flat_map, range_with_len}
+use Rattle.std.proofs.Common.{◌≡◌, ◌<◌, ◌≤◌, ◌+◌, ◌*◌, ◌/◌, ◌↔◌, ◌∙◌, ℕ, Bool, true, zero, suc, List, [], ◌∷◌, ◌++◌, cond, inl, inr, length, map, nat_eq, not, arith, refl, ap, sym, subst, ap₂}
+use Rattle.std.specs.List.{All, Contains, count_by, sum_by, filter, flat_map, range_with_len}
 use Rattle.std.specs.List.Sorted.{IsPermutation}
 use Rattle.std.proofs.Math.Nat.{div-mul-le_self, div-zero, le-div_iff_mul-le, mul-le-mul_right}
 use Rattle.std.proofs.Math.Decide.{dec_lt}
@@ -9,11 +8,12 @@ use Rattle.std.proofs.lemmas.Bool.{both_ways, cases_Bool, eq-eqb, ne_eqb, eqb-tr
 use Rattle.std.proofs.lemmas.List.Concat.{flat_map-cons}
 use Rattle.std.proofs.lemmas.List.Elements.{All-contains, All-contains_itself, All-filter, All-head, All-weaker, Contains-append_cases, Contains-get_or, filter_passes}
 use Rattle.std.proofs.lemmas.List.FromFn.{get_or-map-range_with_len, length-map-range_with_len}
+use Rattle.std.proofs.lemmas.List.Sums.{length-filter, sum_by-cons}
 use Rattle.std.proofs.lemmas.List.Sorted.{Contains-permutation, IsPermutation-append_right, IsPermutation-filter_both, IsPermutation-refl, IsPermutation-trans}
-use Rattle.ld_stripe.specs.Striping.{IsStriping, owner_at}
+use Rattle.ld_stripe.specs.Striping.{owner_at, share_at}
 use Rattle.ld_arrival.specs.Limits.{IsWithinLimits}
 use Rattle.ld_arrival.specs.Schedule.{arrival_at, owned_pairs, schedule}
-use Rattle.ld_arrival.specs.Timetable.{Timetable, Constant, IsPlanned, moment_of, planned_count}
+use Rattle.ld_arrival.specs.Timetable.{Timetable, Constant, IsPlanned, moment_of, planned, planned_count}
 use Rattle.ld_arrival.proofs.CountLemmas.{counted}
 
 -- quotients of one divisor don't fall
@@ -28,60 +28,56 @@ moments_rise (Constant rate unit duration) j k within = div_rises (j * unit) (k 
 
 -- of numbers below n, f gives what the list of all f k has
 in_front : {X : Type 0} (f : ℕ → X) (n : ℕ) (x : X) → Contains (map f (range_with_len 0 n)) x ↔ ((k : ℕ) × (k < n) × (f k ≡ x))
-in_front f n x =
-    (
-      λ has.
+in_front f n x = (
+  λ has.
       let long = length-map-range_with_len f 0 n in
       let at = has.1 in
       let below : has.0 < n = omega arith in
       (has.0, below, sym (get_or-map-range_with_len f 0 n has.0 has.0 x below (omega arith)) ∙ has.2),
-      λ at.
+  λ at.
       let long = length-map-range_with_len f 0 n in
       let below = at.1 in
       subst (Contains (map f (range_with_len 0 n))) (get_or-map-range_with_len f 0 n at.0 at.0 x below (omega arith) ∙ at.2)
-      (Contains-get_or (map f (range_with_len 0 n)) at.0 x (omega arith))
-    )
+      (Contains-get_or (map f (range_with_len 0 n)) at.0 x (omega arith)),
+)
 
 pub in_schedule : (timetable : Timetable) → IsWithinLimits timetable → (k moment : ℕ) →
-    Contains (schedule timetable) (k , moment) ↔ (IsPlanned timetable k × (moment ≡ moment_of timetable k))
+    Contains (schedule timetable) (k, moment) ↔ (IsPlanned timetable k × (moment ≡ moment_of timetable k))
 in_schedule timetable limits k moment =
     let is = counted timetable limits in
     let whole : schedule timetable ≡ map (arrival_at timetable) (range_with_len 0 (planned_count timetable)) = ap (map (arrival_at timetable)) is.all in
-    let front = in_front (arrival_at timetable) (planned_count timetable) (k , moment) in
-    (
+    let front = in_front (arrival_at timetable) (planned_count timetable) (k, moment) in (
       λ has.
-      let at = front.0 (subst (λ (pairs : List (ℕ × ℕ)). Contains pairs (k , moment)) whole has) in
-      let same : at.0 ≡ k = ap (λ (pair : ℕ × ℕ). pair.0) at.2 in
-      ((is.those k).1 (subst (λ n. n < planned_count timetable) same at.1), sym (ap (λ (pair : ℕ × ℕ). pair.1) at.2) ∙ ap (moment_of timetable) same),
+          let at = front.0 (subst (λ (pairs : List (ℕ × ℕ)). Contains pairs (k, moment)) whole has) in
+          let same : at.0 ≡ k = ap (λ (pair : ℕ × ℕ). pair.0) at.2 in
+          ((is.those k).1 (subst (λ n. n < planned_count timetable) same at.1), sym (ap (λ (pair : ℕ × ℕ). pair.1) at.2) ∙ ap (moment_of timetable) same),
       λ fits.
-      subst (λ (pairs : List (ℕ × ℕ)). Contains pairs (k , moment)) (sym whole)
-      (front.1 (k, (is.those k).0 fits.0, ap (λ (m : ℕ). (k , m)) (sym fits.1)))
+          subst (λ (pairs : List (ℕ × ℕ)). Contains pairs (k, moment)) (sym whole)
+          (front.1 (k, (is.those k).0 fits.0, ap (λ (m : ℕ). (k, m)) (sym fits.1))),
     )
 
 -- what a test keeps of a list is what is in the list and passes
 in_filter : {X : Type 0} (p : X → Bool) (xs : List X) (x : X) → Contains (filter p xs) x ↔ (Contains xs x × (p x ≡ true))
-in_filter p xs x =
-    (
-      λ has. (
-        All-contains (Contains xs) (filter p xs) x (All-filter p (Contains xs) xs (All-contains_itself xs)) has,
-        All-contains (λ y. p y ≡ true) (filter p xs) x (filter_passes p xs) has
-      ),
-      λ fits.
+in_filter p xs x = (
+  λ has. (
+    All-contains (Contains xs) (filter p xs) x (All-filter p (Contains xs) xs (All-contains_itself xs)) has,
+    All-contains (λ y. p y ≡ true) (filter p xs) x (filter_passes p xs) has,
+  ),
+  λ fits.
       elim (Contains-append_cases (filter p xs) (filter (λ y. not (p y)) xs) x (Contains-permutation _ _ x (IsPermutation-filter_both p (λ y. not (p y)) (λ y. refl) xs) fits.0)) [
         | inl kept ↦ kept
         | inr other ↦
             let fails = All-contains (λ y. not (p y) ≡ true) (filter (λ y. not (p y)) xs) x (filter_passes (λ y. not (p y)) xs) other in
             absurd (false≢true (sym (ap not fits.1) ∙ fails))
-      ]
-    )
+      ],
+)
 
 pub in_owned : (owners : List ℕ) (j : ℕ) (pairs : List (ℕ × ℕ)) (pair : ℕ × ℕ) →
     Contains (owned_pairs owners j pairs) pair ↔ (Contains pairs pair × (owner_at owners pair.0 ≡ j))
 in_owned owners j pairs pair =
-    let kept = in_filter (λ (one : ℕ × ℕ). nat_eq (owner_at owners one.0) j) pairs pair in
-    (
+    let kept = in_filter (λ (one : ℕ × ℕ). nat_eq (owner_at owners one.0) j) pairs pair in (
       λ has. let fits = kept.0 has in (fits.0, eqb-true _ _ fits.1),
-      λ fits. kept.1 (fits.0, eq-eqb _ _ fits.1)
+      λ fits. kept.1 (fits.0, eq-eqb _ _ fits.1),
     )
 
 -- a stricter test behind another keeps what it keeps of the whole list
@@ -131,11 +127,13 @@ owned_behind owner p n xs owned =
     (λ x has.
     let kept = (in_filter (λ y. not (nat_eq (owner y) p)) xs x).0 has in
     let range = All-contains (λ y. (p ≤ owner y) × (owner y < p + suc n)) xs x owned kept.0 in
-    let apart : owner x ≡ p → ⊥ = λ is. false≢true (sym (ap not (eq-eqb (owner x) p is)) ∙ kept.1) in
-    (elim (dec_lt p (owner x)) [
-      | yes above ↦ omega arith
-      | no at ↦ absurd (apart (omega arith))
-    ], omega arith))
+    let apart : owner x ≡ p → ⊥ = λ is. false≢true (sym (ap not (eq-eqb (owner x) p is)) ∙ kept.1) in (
+      elim (dec_lt p (owner x)) [
+        | yes above ↦ omega arith
+        | no at ↦ absurd (apart (omega arith))
+      ],
+      omega arith,
+    ))
     (others owner p xs) (All-contains_itself (others owner p xs))
 
 -- the parts of n owners are the whole, where these own everything
@@ -164,3 +162,18 @@ owned_whole owners n below pairs =
     (All-weaker (Contains pairs) (λ (pair : ℕ × ℕ). (0 ≤ owner_at owners pair.0) × (owner_at owners pair.0 < 0 + n))
     (λ pair _. let b = below pair.0 in (omega arith, omega arith))
     pairs (All-contains_itself pairs))
+
+sum_over_map : {X : Type 0} (g : X → ℕ) (f : ℕ → X) (ks : List ℕ) → sum_by g (map f ks) ≡ sum_by (λ k. g (f k)) ks
+sum_over_map g f [] = refl
+sum_over_map g f (k ∷ ks) =
+    sum_by-cons g (f k) (map f ks)
+    ∙ ap (λ n. g (f k) + n) (sum_over_map g f ks)
+    ∙ sym (sum_by-cons (λ x. g (f x)) k ks)
+
+-- of a schedule a position owns as many pairs as it has a share of the arrivals
+pub owned_count : (timetable : Timetable) → IsWithinLimits timetable → (owners : List ℕ) (j : ℕ) →
+    length (owned_pairs owners j (schedule timetable)) ≡ share_at owners j (planned_count timetable)
+owned_count timetable limits owners j =
+    length-filter (λ (pair : ℕ × ℕ). nat_eq (owner_at owners pair.0) j) (schedule timetable)
+    ∙ sum_over_map (λ (pair : ℕ × ℕ). cond (nat_eq (owner_at owners pair.0) j) 1 0) (arrival_at timetable) (planned timetable)
+    ∙ ap (λ (ks : List ℕ). count_by (λ x. nat_eq (owner_at owners x) j) ks) (counted timetable limits).all

@@ -5,7 +5,7 @@ use Rattle.ld_arrival.specs.Timetable.{Timetable, moment_of, planned}
 
 -- arrival k, with its moment
 abbrev pub arrival_at : Timetable → ℕ → ℕ × ℕ
-arrival_at timetable k = (k , moment_of timetable k)
+arrival_at timetable k = (k, moment_of timetable k)
 
 -- the planned arrivals with their moments, in order
 abbrev pub schedule : Timetable → List (ℕ × ℕ)

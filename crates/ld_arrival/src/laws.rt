@@ -1,10 +1,10 @@
 // The laws of schedules, over all timetables.
 ghost use Rattle.std.specs.Prelude.{◌≡◌, ◌<◌, ◌≤◌, ◌↔◌, ℕ, List, Contains, IsPermutation, length, sum};
 ghost use Rattle.std.specs.List.{flat_map, range_with_len};
-ghost use Rattle.ld_stripe.specs.Striping.{IsStriping, owner_at};
+ghost use Rattle.ld_stripe.specs.Striping.{IsStriping, owner_at, share_at};
 ghost use Rattle.ld_arrival.specs.Limits.{IsWithinLimits};
 ghost use Rattle.ld_arrival.specs.Schedule.{owned_pairs, schedule};
-ghost use Rattle.ld_arrival.specs.Timetable.{Timetable, IsPlanned, moment_of, planned, planned_count};
+ghost use Rattle.ld_arrival.specs.Timetable.{Timetable, IsPlanned, end_of, moment_of, planned, planned_count};
 
 use ld_stripe::one_owner;
 
@@ -22,10 +22,15 @@ pub fn planned_first()
         IsPlanned timetable k ↔ (k < planned_count timetable) }
 {}
 
+/// Within the limits no arrival is due after 30 days.
+pub fn ends_within()
+    ensures { (timetable : Timetable) → IsWithinLimits timetable → end_of timetable ≤ 2592000000000000 }
+{}
+
 /// A pair is in the schedule exactly where its arrival is planned and its moment is that of the arrival.
 pub fn in_schedule()
     ensures { (timetable : Timetable) → IsWithinLimits timetable → (k moment : ℕ) →
-        Contains (schedule timetable) (k , moment) ↔ (IsPlanned timetable k × (moment ≡ moment_of timetable k)) }
+        Contains (schedule timetable) (k, moment) ↔ (IsPlanned timetable k × (moment ≡ moment_of timetable k)) }
 {}
 
 /// A position owns exactly those pairs of a list whose arrival goes to it.
@@ -41,3 +46,9 @@ pub fn owned_once()
 {
     one_owner();
 }
+
+/// Of a schedule a position owns as many pairs as it has a share of the planned arrivals.
+pub fn owned_count()
+    ensures { (timetable : Timetable) → IsWithinLimits timetable → (owners : List ℕ) (j : ℕ) →
+        length (owned_pairs owners j (schedule timetable)) ≡ share_at owners j (planned_count timetable) }
+{}

@@ -9,7 +9,9 @@ mod ticker;
 
 pub use arrivals::Arrivals;
 pub use fault::ArrivalFault;
-pub use laws::{in_owned, in_schedule, moments_rise, owned_once, planned_first};
+pub use laws::{
+    ends_within, in_owned, in_schedule, moments_rise, owned_count, owned_once, planned_first,
+};
 pub use ticker::Ticker;
 
 #[cfg(test)]

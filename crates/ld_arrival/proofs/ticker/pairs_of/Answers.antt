@@ -1,7 +1,5 @@
 use Rattle.std.proofs.Common.{◌≡◌, ◌∙◌, ◌++◌, ◌∷◌, [], ℕ, List, map, arith, ap, ap₂, sym}
-use Rattle.std.specs.List.{range_with_len}
 use Rattle.ld_arrival.specs.Schedule.{arrival_at, owned_pairs}
-use Rattle.ld_arrival.specs.Timetable.{planned}
 use Rattle.ld_arrival.proofs.CountLemmas.{counted}
 use Rattle.ld_arrival.proofs.TickerLemmas.{owned_of_first, owned_arrival, other_arrival}
 use Rattle.ld_arrival.proofs.ticker.pairs_of.Goals as goal
