@@ -5,7 +5,7 @@ use Rattle.ld_arrival.specs.Limits.{HasBadRate, HasBadDuration, IsWithinLimits, 
 use Rattle.ld_arrival.specs.declared.fault.ArrivalFault.{ArrivalFault}
 use Rattle.ld_arrival.specs.declared.fault.ArrivalFault.TheVariants.{RateRange, DurationRange, TooManyArrivals, Memory}
 
--- the timetable is refused with this fault; want of memory is no refusal of its
+-- the timetable is refused with this fault; want of memory is no refusal of its own
 abbrev pub IsRefusal : Timetable → ArrivalFault → Type 0
 IsRefusal timetable RateRange = HasBadRate timetable
 IsRefusal timetable DurationRange = (¬ HasBadRate timetable) × HasBadDuration timetable

@@ -10,10 +10,11 @@ pub data Timetable : Type 0 where
 abbrev pub moment_of : Timetable → ℕ → ℕ
 moment_of (Constant rate unit duration) k = k * unit / rate
 
--- the moment before which an arrival has to be due to be planned
+-- the moment at which the timetable ends
 abbrev pub end_of : Timetable → ℕ
 end_of (Constant rate unit duration) = duration
 
+-- arrival k is planned: it is due before the end
 abbrev pub IsPlanned : Timetable → ℕ → Type 0
 IsPlanned timetable k = moment_of timetable k < end_of timetable
 

@@ -31,7 +31,7 @@ impl Model for Arrivals {
 impl Arrivals {
     ghost use Rattle.std.specs.Prelude.{◌≡◌, ◌≢◌, ◌<◌, ◌≤◌, ◌↔◌, ℕ, IfOk, IfErr};
     ghost use Rattle.ld_arrival.specs.Timetable.{Constant, IsPlanned, moment_of, end_of, planned_count};
-    ghost use Rattle.ld_arrival.specs.Limits.{IsWithinLimits};
+    ghost use Rattle.ld_arrival.specs.Limits.{IsWithinLimits, most_arrivals};
     ghost use Rattle.ld_arrival.specs.ArrivalFault.{IsRefusal};
     ghost use Rattle.ld_arrival.specs.declared.fault.ArrivalFault.{ArrivalFault};
 
@@ -65,11 +65,11 @@ impl Arrivals {
         Ok(Arrivals { rate, count })
     }
 
-    /// How many arrivals are planned: those below this number are.
+    /// How many arrivals are planned, at most 400,000: those below this number are.
     pub fn count(&self) -> u64
         ensures count { result ≡ planned_count self.now }
         ensures planned { (k : ℕ) → IsPlanned self.now k ↔ (k < result) }
-        ensures few { result ≤ 400000 }
+        ensures few { result ≤ most_arrivals }
         ensures limits { IsWithinLimits self.now }
     {
         self.count

@@ -2,7 +2,7 @@
 ghost use Rattle.std.specs.Prelude.{◌≡◌, ◌<◌, ◌≤◌, ◌↔◌, ℕ, List, Contains, IsPermutation, length, sum};
 ghost use Rattle.std.specs.List.{flat_map, range_with_len};
 ghost use Rattle.ld_stripe.specs.Striping.{IsStriping, owner_at, share_at};
-ghost use Rattle.ld_arrival.specs.Limits.{IsWithinLimits};
+ghost use Rattle.ld_arrival.specs.Limits.{IsWithinLimits, greatest_duration};
 ghost use Rattle.ld_arrival.specs.Schedule.{owned_pairs, schedule};
 ghost use Rattle.ld_arrival.specs.Timetable.{Timetable, IsPlanned, end_of, moment_of, planned, planned_count};
 
@@ -24,7 +24,7 @@ pub fn planned_first()
 
 /// Within the limits no arrival is due after 30 days.
 pub fn ends_within()
-    ensures { (timetable : Timetable) → IsWithinLimits timetable → end_of timetable ≤ 2592000000000000 }
+    ensures { (timetable : Timetable) → IsWithinLimits timetable → end_of timetable ≤ greatest_duration }
 {}
 
 /// A pair is in the schedule exactly where its arrival is planned and its moment is that of the arrival.

@@ -63,6 +63,11 @@ fn too_many_arrivals_are_refused(rt: HostRuntime) {
     }
 }
 
+/// A value that may go to another thread.
+fn may_cross<T: Send + Sync>(_value: &T) -> bool {
+    true
+}
+
 /// The next pair of any source.
 fn next_of<S: IndexSource>(source: &mut S) -> Option<(u64, u64)> {
     source.next()
@@ -78,6 +83,7 @@ fn tickers_give_what_their_positions_own(rt: HostRuntime) -> Result<(), Fail> {
         let arrivals = Arrivals::constant(rt.alloc(), 4, SECOND, SECOND)?;
         let stripe = Stripe::of_weights(rt.alloc(), &[1, 1])?;
         let mut ticker = Ticker::new(rt.alloc(), arrivals, stripe, position)?;
+        assert!(rt; may_cross(&ticker));
         for pair in [Some(first), Some(second), None, None] {
             assert_eq!(rt; next_of(&mut ticker), pair, "of {position}");
         }
