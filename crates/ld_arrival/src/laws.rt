@@ -8,7 +8,7 @@ ghost use Rattle.ld_arrival.specs.Timetable.{Timetable, IsPlanned, end_of, momen
 
 use ld_stripe::one_owner;
 
-/// Moments don't fall: no arrival is due before an earlier one.
+/// Moments don't fall: no planned arrival is due before an earlier one.
 pub fn moments_rise()
     ensures { (timetable : Timetable) (j k : ℕ) → j ≤ k → IsPlanned timetable k →
         moment_of timetable j ≤ moment_of timetable k }
@@ -22,7 +22,7 @@ pub fn planned_first()
         IsPlanned timetable k ↔ (k < planned_count timetable) }
 {}
 
-/// Within the limits no arrival is due after 30 days.
+/// A timetable within the limits ends within 30 days.
 pub fn ends_within()
     ensures { (timetable : Timetable) → IsWithinLimits timetable → end_of timetable ≤ greatest_duration }
 {}
