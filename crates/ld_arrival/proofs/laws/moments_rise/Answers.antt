@@ -1,0 +1,5 @@
+use Rattle.ld_arrival.proofs.ScheduleLaws as lemmas
+use Rattle.ld_arrival.proofs.laws.moments_rise.Goals as goal
+
+pub returns : goal.returns
+returns c = λ timetable j k within _. lemmas.moments_rise timetable j k within

@@ -1,0 +1,18 @@
+//! Arrivals: how many a test plans, when each is due, and which of them one position owns.
+#![tactic(auto)]
+
+mod arrivals;
+mod constant_rate;
+mod fault;
+mod laws;
+mod ticker;
+
+pub use arrivals::Arrivals;
+pub use fault::ArrivalFault;
+pub use laws::{
+    ends_within, in_owned, in_schedule, moments_rise, owned_count, owned_once, planned_first,
+};
+pub use ticker::Ticker;
+
+#[cfg(test)]
+mod tests;
