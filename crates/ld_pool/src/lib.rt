@@ -1,0 +1,15 @@
+//! The virtual users of an instance: which are free, held by a scenario, or busy.
+#![tactic(auto)]
+
+mod fault;
+mod laws;
+mod pool;
+mod user;
+
+pub use fault::PoolFault;
+pub use laws::{one_changes, users_are_counted};
+pub use pool::Pool;
+pub use user::User;
+
+#[cfg(test)]
+mod tests;
