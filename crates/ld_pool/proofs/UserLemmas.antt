@@ -11,7 +11,8 @@ use Rattle.ld_pool.specs.declared.user.User.{User}
 use Rattle.ld_pool.specs.declared.user.User.TheVariants.{Free, Idle, Busy}
 
 -- a user's place in the list
-pub user_at_place : (users : List User) (number : ℕ) (user : User) → user_at users number ≡ Some user → (0 < number) × (number - 1 < length users) × (get_or users (number - 1) user ≡ user)
+pub user_at_place : (users : List User) (number : ℕ) (user : User) → user_at users number ≡ Some user →
+    (0 < number) × (number - 1 < length users) × (get_or users (number - 1) user ≡ user)
 user_at_place users zero user is = absurd (cc is)
 user_at_place users (suc index) user is =
     let e : suc index - 1 ≡ index = omega arith in
@@ -65,6 +66,29 @@ idle_is (Some (Busy _ _ _)) idle = absurd (cc idle)
 -- one user more counts as what it is
 count-cons : (p : User → Bool) (user : User) (users : List User) → count_by p (user ∷ users) ≡ cond (p user) 1 0 + count_by p users
 count-cons p user users = sum_by-cons (λ (u : User). cond (p u) 1 0) user users
+
+-- no user behind the first is free, where none at all is
+none_behind : (user : User) (users : List User) → ((number : ℕ) → user_at (user ∷ users) number ≢ Some Free) →
+    (number : ℕ) → user_at users number ≢ Some Free
+none_behind user users none zero free = cc free
+none_behind user users none (suc index) free = none (suc (suc index)) free
+
+-- where no user is free, none is counted as free
+pub none_counted : (users : List User) → ((number : ℕ) → user_at users number ≢ Some Free) → free_count users ≡ 0
+none_counted [] none = refl
+none_counted (Free ∷ users) none = absurd (none 1 refl)
+none_counted (Idle scenario ∷ users) none =
+    let rest = none_counted users (none_behind (Idle scenario) users none) in
+    omega (arith, count-cons is_free (Idle scenario) users)
+none_counted (Busy scenario item until ∷ users) none =
+    let rest = none_counted users (none_behind (Busy scenario item until) users none) in
+    omega (arith, count-cons is_free (Busy scenario item until) users)
+
+-- where none is counted as free, no user is
+pub counted_none : (users : List User) → free_count users ≡ 0 → (number : ℕ) → user_at users number ≢ Some Free
+counted_none users none number free =
+    let some = some_free users number free in
+    omega arith
 
 -- a user is of just one kind
 one_kind : (user : User) (free idle busy all : ℕ) → free + idle + busy ≡ all →

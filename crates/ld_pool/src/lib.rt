@@ -7,7 +7,9 @@ mod pool;
 mod user;
 
 pub use fault::PoolFault;
-pub use laws::{one_changes, users_are_counted};
+pub use laws::{
+    changes_are_counted, none_is_free, numbered_from_one, one_changes, one_grows, users_are_counted,
+};
 pub use pool::Pool;
 pub use user::User;
 

@@ -89,7 +89,7 @@ impl Pool {
         if self.made() == self.limit {
             return None;
         }
-        self.users.push(User::Idle { scenario }).unwrap();
+        self.users.push_reserved(User::Idle { scenario });
         Some(self.made())
     }
 
