@@ -100,11 +100,12 @@ impl Pool {
         ensures stint { result ≡ stint_of scenario user item until }
         ensures busy { self.new ≡ record self.old { users = with_user self.old.users user (busy_with result) } }
     {
-        self.users[user as usize - 1] = User::Busy {
+        let busy = User::Busy {
             scenario,
             item,
             until,
         };
+        self.users[user as usize - 1] = busy;
         Stint::new(scenario, user, item, until)
     }
 
@@ -113,9 +114,8 @@ impl Pool {
         requires { user_at self.old.users stint.user ≡ Some (busy_with stint) }
         ensures { self.new ≡ record self.old { users = with_user self.old.users stint.user (User.Idle stint.scenario) } }
     {
-        self.users[stint.user() as usize - 1] = User::Idle {
-            scenario: stint.scenario(),
-        };
+        let scenario = stint.scenario();
+        self.users[stint.user() as usize - 1] = User::Idle { scenario };
         stint.spend();
     }
 
