@@ -1,7 +1,6 @@
 -- What a pool keeps true, when one of its users changes.
-use Rattle.std.specs.Prelude.{◌≡◌, ◌+◌, ◌-◌, ℕ, cond, List, Some, length}
+use Rattle.std.specs.Prelude.{◌≡◌, ◌+◌, ◌-◌, ℕ, cond, List, Some}
 use Rattle.std.proofs.Common.{arith, length-set}
-use Rattle.ld_base.specs.Reserved.{IsReserved}
 use Rattle.ld_pool.specs.Pool.{IsKept}
 use Rattle.ld_pool.specs.Users.{is_free, user_at, with_user}
 use Rattle.ld_pool.specs.declared.user.User.{User}

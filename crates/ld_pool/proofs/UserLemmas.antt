@@ -1,5 +1,5 @@
 -- Users by their numbers, and how many are of a kind.
-use Rattle.std.specs.Prelude.{◌≡◌, ◌≢◌, ◌+◌, ◌-◌, ◌<◌, ◌≤◌, ℕ, zero, suc, Bool, true, false, cond, List, [], ◌∷◌, Option, Some, None, IsSomeAnd, IsTrue, length, count_by, nat_lt, position}
+use Rattle.std.specs.Prelude.{◌≡◌, ◌≢◌, ◌+◌, ◌-◌, ◌<◌, ℕ, zero, suc, Bool, true, cond, List, [], ◌∷◌, Option, Some, None, IsSomeAnd, IsTrue, length, count_by, nat_lt, position}
 use Rattle.std.specs.List.{position_or_len}
 use Rattle.std.proofs.Common.{arith, add-one, ap, get_or, inl, inr, refl}
 use Rattle.std.proofs.lemmas.Bool.{cases_Bool, ltb-false}

@@ -1,5 +1,3 @@
-use Rattle.std.specs.Prelude.{ℕ, List}
-use Rattle.ld_pool.specs.declared.user.User.{User}
 use Rattle.ld_pool.proofs.UserLemmas.{counted_none, none_counted}
 use Rattle.ld_pool.proofs.laws.none_is_free.Goals as goal
 

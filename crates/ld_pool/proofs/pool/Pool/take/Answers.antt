@@ -1,5 +1,4 @@
-use Rattle.std.proofs.Common.{◌<◌, ◌-◌, arith, length}
-use Rattle.ld_pool.specs.Users.{free_count}
+use Rattle.std.proofs.Common.{arith}
 use Rattle.ld_pool.proofs.KeptLemmas.{kept-with_user}
 use Rattle.ld_pool.proofs.UserLemmas.{some_free, user_at_place}
 use Rattle.ld_pool.proofs.pool.Pool.take.Goals as goal
