@@ -1,10 +1,8 @@
 -- A pool of users, and what its fields keep true.
 use Rattle.std.specs.Prelude.{◌≡◌, ◌≤◌, ℕ, List, length}
 use Rattle.ld_base.specs.Reserved.{IsReserved}
-use Rattle.ld_base.specs.Stint.{StintView}
 use Rattle.ld_pool.specs.Users.{free_count}
 use Rattle.ld_pool.specs.declared.user.User.{User}
-use Rattle.ld_pool.specs.declared.user.User.TheVariants.{Busy}
 
 -- a pool as contracts see it: the users that were made, in order of their numbers from 1, and how
 -- many there may be
@@ -17,7 +15,3 @@ pub record IsKept (users : List User) (free limit capacity : ℕ) : Type 0 where
   pub room : IsReserved (length users) limit capacity
   pub few : limit ≤ 1000
   pub counted : free ≡ free_count users
-
--- the user that plays a stint
-abbrev pub busy_with : StintView → User
-busy_with stint = Busy stint.scenario stint.item stint.until

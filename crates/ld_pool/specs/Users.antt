@@ -1,5 +1,6 @@
 -- The users of a pool: what each of them is, and how many are of one kind.
 use Rattle.std.specs.Prelude.{◌-◌, ℕ, zero, suc, Bool, true, false, List, Option, Some, None, count_by, slice_get, slice_set}
+use Rattle.ld_base.specs.Stint.{StintView}
 use Rattle.ld_pool.specs.declared.user.User.{User}
 use Rattle.ld_pool.specs.declared.user.User.TheVariants.{Free, Idle, Busy}
 
@@ -26,6 +27,10 @@ abbrev pub holder_of : User → Option ℕ
 holder_of Free = None
 holder_of (Idle scenario) = Some scenario
 holder_of (Busy scenario _ _) = Some scenario
+
+-- the user that plays a stint
+abbrev pub busy_with : StintView → User
+busy_with stint = Busy stint.scenario stint.item stint.until
 
 -- the user of a number, where users are numbered from 1; None where no user of that number was made
 abbrev pub user_at : List User → ℕ → Option User

@@ -16,6 +16,11 @@ pub fn one_changes()
     ensures others { (users : List User) (number other : ℕ) (before after : User) → user_at users number ≡ Some before → other ≢ number → user_at (with_user users number after) other ≡ user_at users other }
 {}
 
+/// A change that is taken back leaves all users as they were.
+pub fn taken_back()
+    ensures { (users : List User) (number : ℕ) (before after : User) → user_at users number ≡ Some before → with_user (with_user users number after) number before ≡ users }
+{}
+
 /// A user that is made leaves each earlier user as it was, and has the number behind theirs.
 pub fn one_grows()
     ensures made { (users : List User) (user : User) → user_at (users ++ user ∷ []) (length users + 1) ≡ Some user }

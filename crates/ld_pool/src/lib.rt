@@ -8,7 +8,8 @@ mod user;
 
 pub use fault::PoolFault;
 pub use laws::{
-    changes_are_counted, none_is_free, numbered_from_one, one_changes, one_grows, users_are_counted,
+    changes_are_counted, none_is_free, numbered_from_one, one_changes, one_grows, taken_back,
+    users_are_counted,
 };
 pub use pool::Pool;
 pub use user::User;

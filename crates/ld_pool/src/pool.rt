@@ -1,8 +1,7 @@
 ghost use Rattle.std.specs.Prelude.{◌≡◌, ◌≢◌, ◌+◌, ◌<◌, ◌≤◌, ◌++◌, ◌∷◌, ℕ, [], false, position, IfNone, IfOk, IfSome, IsSomeAnd, IsTrue, SomeIff, length, replicate};
 ghost use Rattle.std.specs.Option.{option_and_then, option_map_or};
 ghost use Rattle.ld_base.specs.Stint.{stint_of};
-ghost use Rattle.ld_pool.specs.Pool.{busy_with};
-ghost use Rattle.ld_pool.specs.Users.{free_count, holder_of, is_busy, is_free, is_idle, user_at, with_user};
+ghost use Rattle.ld_pool.specs.Users.{busy_with, free_count, holder_of, is_busy, is_free, is_idle, user_at, with_user};
 
 use crate::fault::PoolFault;
 use crate::user::User;
@@ -62,7 +61,8 @@ impl Pool {
         Some(user)
     }
 
-    // A free user, `prefer` where that one is free. None exactly where no user is free.
+    // A free user: `prefer` where that one is free, and otherwise the first, which is looked for among
+    // all users. None exactly where no user is free.
     fn choice(&self, prefer: u32) -> Option<u32>
         ensures free { IfSome result (λ user. user_at self.now.users user ≡ Some User.Free) }
         ensures preferred { user_at self.now.users prefer ≡ Some User.Free → result ≡ Some prefer }
