@@ -47,7 +47,8 @@ impl Pool {
     }
 
     /// Gives the scenario a free user, which it holds from then on: `prefer` where that user is
-    /// free, and otherwise any other. None exactly where no user is free.
+    /// free, and otherwise any other. None exactly where no user is free. Where no user is preferred,
+    /// `prefer` is 0, which is no user's number.
     pub fn take(&mut self, scenario: u16, prefer: u32) -> Option<u32>
         ensures free { IfSome result (λ user. user_at self.old.users user ≡ Some User.Free) }
         ensures held { IfSome result (λ user. self.new ≡ record self.old { users = with_user self.old.users user (User.Idle scenario) }) }
@@ -144,14 +145,15 @@ impl Pool {
         self.free
     }
 
-    /// The scenario that holds a user, or None exactly where none does.
+    /// The scenario that holds a user, or None exactly where none does, as where no user of this
+    /// number was made.
     pub fn holder(&self, user: u32) -> Option<u16>
         ensures { result ≡ option_and_then holder_of (user_at self.now.users user) }
     {
         self.user(user)?.holder()
     }
 
-    /// Whether a user plays an item.
+    /// Whether a user plays an item. It is false where no user of this number was made.
     pub fn is_busy(&self, user: u32) -> bool
         ensures { result ≡ option_map_or is_busy (user_at self.now.users user) false }
     {
