@@ -1,0 +1,105 @@
+-- Users by their numbers, and how many are of a kind.
+use Rattle.std.specs.Prelude.{◌≡◌, ◌≢◌, ◌+◌, ◌-◌, ◌<◌, ℕ, zero, suc, Bool, true, cond, List, [], ◌∷◌, Option, Some, None, IsSomeAnd, IsTrue, length, count_by, nat_lt, position}
+use Rattle.std.specs.List.{position_or_len}
+use Rattle.std.proofs.Common.{arith, add-one, ap, get_or, inl, inr, refl}
+use Rattle.std.proofs.lemmas.Bool.{cases_Bool, ltb-false}
+use Rattle.std.proofs.lemmas.Option.{slice_get_within, get_or_from_slice_get, slice_get-get_or}
+use Rattle.std.proofs.lemmas.List.Sums.{fails_before_first, sum_by-set, sum_by-cons}
+use Rattle.std.proofs.lemmas.List.Quantifiers.{position-Some}
+use Rattle.ld_pool.specs.Users.{busy_count, free_count, idle_count, is_busy, is_free, is_idle, user_at, with_user}
+use Rattle.ld_pool.specs.declared.user.User.{User}
+use Rattle.ld_pool.specs.declared.user.User.TheVariants.{Free, Idle, Busy}
+
+-- a user's place in the list
+pub user_at_place : (users : List User) (number : ℕ) (user : User) → user_at users number ≡ Some user →
+    (0 < number) × (number - 1 < length users) × (get_or users (number - 1) user ≡ user)
+user_at_place users zero user is = absurd (cc is)
+user_at_place users (suc index) user is =
+    let e : suc index - 1 ≡ index = omega arith in
+    rw e (omega arith, slice_get_within users index user is, get_or_from_slice_get users index user user is)
+
+-- a change of one user counts it as what it is then
+pub count-with_user : (p : User → Bool) (users : List User) (number : ℕ) (before after : User) → user_at users number ≡ Some before →
+    count_by p (with_user users number after) + cond (p before) 1 0 ≡ count_by p users + cond (p after) 1 0
+count-with_user p users number before after is =
+    let place = user_at_place users number before is in
+    let counted = sum_by-set (λ (u : User). cond (p u) 1 0) users (number - 1) after before place.1 in
+    rw place.2 at counted
+
+-- where a user is free, not none are
+pub some_free : (users : List User) (number : ℕ) → user_at users number ≡ Some Free → 0 < free_count users
+some_free users number is =
+    let changed = count-with_user is_free users number Free (Idle 0) is in
+    omega (arith, changed)
+
+-- a user that passes the test is free
+free_is : (user : User) → is_free user ≡ true → user ≡ Free
+free_is Free free = refl
+free_is (Idle _) free = absurd (cc free)
+free_is (Busy _ _ _) free = absurd (cc free)
+
+-- the first user that is free is free
+pub first_is_free : (users : List User) (index : ℕ) → position is_free users ≡ Some index → user_at users (index + 1) ≡ Some Free
+first_is_free users index is =
+    let first = position-Some is_free users index Free is in
+    rw add-one (rw (slice_get-get_or users index Free first.0) (ap Some (free_is (get_or users index Free) first.1)))
+
+-- where there is no first, none is free
+pub no_first : (users : List User) (number : ℕ) → position is_free users ≡ None → user_at users number ≢ Some Free
+no_first users number is free =
+    let place = user_at_place users number Free free in
+    elim (cases_Bool (nat_lt (position_or_len is_free users) (length users))) [
+      | inl some ↦ absurd (cc (rw some at is))
+      | inr none ↦
+          let past = ltb-false _ _ none in
+          let fails = fails_before_first is_free users (number - 1) Free (omega arith) in
+          absurd (cc (rw place.2 at fails))
+    ]
+
+-- an idle user is one of a scenario
+pub idle_is : (user : Option User) → IsSomeAnd user (λ held. IsTrue (is_idle held)) → (scenario : ℕ) × (user ≡ Some (Idle scenario))
+idle_is None idle = absurd idle
+idle_is (Some Free) idle = absurd (cc idle)
+idle_is (Some (Idle scenario)) idle = (scenario, refl)
+idle_is (Some (Busy _ _ _)) idle = absurd (cc idle)
+
+-- one user more counts as what it is
+count-cons : (p : User → Bool) (user : User) (users : List User) → count_by p (user ∷ users) ≡ cond (p user) 1 0 + count_by p users
+count-cons p user users = sum_by-cons (λ (u : User). cond (p u) 1 0) user users
+
+-- no user behind the first is free, where none at all is
+none_behind : (user : User) (users : List User) → ((number : ℕ) → user_at (user ∷ users) number ≢ Some Free) →
+    (number : ℕ) → user_at users number ≢ Some Free
+none_behind user users none zero free = cc free
+none_behind user users none (suc index) free = none (suc (suc index)) free
+
+-- where no user is free, none is counted as free
+pub none_counted : (users : List User) → ((number : ℕ) → user_at users number ≢ Some Free) → free_count users ≡ 0
+none_counted [] none = refl
+none_counted (Free ∷ users) none = absurd (none 1 refl)
+none_counted (Idle scenario ∷ users) none =
+    let rest = none_counted users (none_behind (Idle scenario) users none) in
+    omega (arith, count-cons is_free (Idle scenario) users)
+none_counted (Busy scenario item until ∷ users) none =
+    let rest = none_counted users (none_behind (Busy scenario item until) users none) in
+    omega (arith, count-cons is_free (Busy scenario item until) users)
+
+-- where none is counted as free, no user is
+pub counted_none : (users : List User) → free_count users ≡ 0 → (number : ℕ) → user_at users number ≢ Some Free
+counted_none users none number free =
+    let some = some_free users number free in
+    omega arith
+
+-- a user is of just one kind
+one_kind : (user : User) (free idle busy all : ℕ) → free + idle + busy ≡ all →
+    (cond (is_free user) 1 0 + free) + (cond (is_idle user) 1 0 + idle) + (cond (is_busy user) 1 0 + busy) ≡ suc all
+one_kind Free free idle busy all sums = omega arith
+one_kind (Idle _) free idle busy all sums = omega arith
+one_kind (Busy _ _ _) free idle busy all sums = omega arith
+
+-- each user is free, idle or busy
+pub kinds_sum : (users : List User) → free_count users + idle_count users + busy_count users ≡ length users
+kinds_sum [] = refl
+kinds_sum (user ∷ users) =
+    rw (count-cons is_free user users, count-cons is_idle user users, count-cons is_busy user users)
+    (one_kind user (free_count users) (idle_count users) (busy_count users) (length users) (kinds_sum users))
