@@ -6,3 +6,4 @@ pub mod LowestTermsLemmas
 pub mod StripingLaws
 pub mod StripeFaultLemmas
 pub mod PlaceLemmas
+pub mod RescaleLaws

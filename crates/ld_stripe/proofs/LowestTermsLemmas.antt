@@ -78,7 +78,7 @@ sum_of_multiples d (n ∷ ns) =
     omega arith
 
 -- the sum of the numbers is the divisor times the sum in lowest terms
-sum_reduced : (numbers reduced : List ℕ) (terms : IsLowestTerms numbers reduced) →
+pub sum_reduced : (numbers reduced : List ℕ) (terms : IsLowestTerms numbers reduced) →
     sum numbers ≡ terms.divisor * sum reduced
 sum_reduced numbers reduced terms = ap sum terms.multiples ∙ sum_of_multiples terms.divisor reduced
 

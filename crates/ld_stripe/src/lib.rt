@@ -9,7 +9,10 @@ mod stripe;
 mod weights;
 
 pub use fault::StripeFault;
-pub use laws::{every_period, one_form, one_owner, one_place, one_striping, shares};
+pub use laws::{
+    every_period, one_form, one_owner, one_place, one_striping, rescaled_shares, shares,
+    whole_shares,
+};
 pub use segmented_index::SegmentedIndex;
 pub use stripe::Stripe;
 

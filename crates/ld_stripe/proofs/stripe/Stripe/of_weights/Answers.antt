@@ -17,7 +17,7 @@ pub returns-clause-accepted : goal.returns-clause-accepted
 returns-clause-accepted c =
     let same = ap sum c.deref.ensures.value in
     let period : sum c.in_ok-weights.weights.items ≤ greatest_period = omega arith in
-    not_refused _ _ (record { some = grind arith; few = omega arith; }) (sym c.in_default.ensures.first) (sum_positive _ (grind arith) c.in_default.ensures.none) c.in_ok-weights.ensures.terms period
+    not_refused _ _ (record { some = grind arith; few = omega arith }) (sym c.in_default.ensures.first) (sum_positive _ (grind arith) c.in_default.ensures.none) c.in_ok-weights.ensures.terms period
 
 pub returns-clause-weighted : goal.returns-clause-weighted
 returns-clause-weighted c = reduced_positive _ _ c.in_default.ensures.none c.in_ok-weights.ensures.terms
