@@ -1,9 +1,8 @@
 -- A striping gives each position its number among as many indices as the numbers sum to.
-use Rattle.std.proofs.Common.{◌≡◌, ◌<◌, ◌≤◌, ◌+◌, ◌*◌, ◌∙◌, ℕ, List, get_or, length, map, take, sum, arith, ap, sym, subst, add-zero, zero-add, mul-zero}
-use Rattle.std.specs.List.{range_with_len}
+use Rattle.std.proofs.Common.{◌≡◌, ◌<◌, ◌+◌, ◌*◌, ◌∙◌, ℕ, List, get_or, length, map, sum, arith, ap, sym, add-zero, zero-add, mul-zero}
 use Rattle.std.proofs.Math.ListN.{get_or-map}
 use Rattle.std.proofs.lemmas.List.FromFn.{get_or-map-range_with_len}
-use Rattle.ld_stripe.specs.Striping.{given, share_at, shares_at, Striping, IsStriping, IsStripingOf}
+use Rattle.ld_stripe.specs.Striping.{share_at, shares_at, Striping, IsStriping, IsStripingOf}
 use Rattle.ld_stripe.proofs.LowestTermsLemmas.{sum_reduced}
 use Rattle.ld_stripe.proofs.StripingLaws.{share_by_periods, shares_sum}
 

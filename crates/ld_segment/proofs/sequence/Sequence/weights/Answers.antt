@@ -1,8 +1,8 @@
-use Rattle.std.proofs.Common.{◌≡◌, ◌≤◌, ◌<◌, ◌+◌, ◌∙◌, Vec, Global, ℕ, List, length, arith, ap, subst, sym}
+use Rattle.std.proofs.Common.{◌≡◌, ◌≤◌, ◌+◌, ◌∙◌, Vec, Global, ℕ, List, length, arith, ap, subst, sym}
 use Rattle.std.proofs.lemmas.Result.{IfOk-weaker}
 use Rattle.ld_num.specs.declared.fraction.Frac.{Frac}
 use Rattle.ld_segment.specs.Points.{IsFilled}
-use Rattle.ld_segment.specs.Segments.{filled, most_segments, segments_of, IsSequence}
+use Rattle.ld_segment.specs.Segments.{most_segments, segments_of, IsSequence}
 use Rattle.ld_segment.proofs.FillingLemmas.{filled_again, length_segments}
 use Rattle.ld_segment.proofs.sequence.Sequence.weights.Goals as goal
 
