@@ -26,7 +26,7 @@ two_begin plan state one two h =
     any-from_In (λ (r : Result). is_first_of_two one r.entries) found.0 found.1
     (subst (λ es. is_first_of_two one es ≡ true) (sym same) (itself_entry one))
 
-one_more : (plan : Plan) (state : State) (one : Entry) (rest : List Entry) → adds_one plan state one ≡ true → are_steps plan (after_entry plan state one) rest ≡ true →
+pub one_more : (plan : Plan) (state : State) (one : Entry) (rest : List Entry) → adds_one plan state one ≡ true → are_steps plan (after_entry plan state one) rest ≡ true →
     are_steps plan state (one ∷ rest) ≡ true
 one_more plan state one [] h later = h
 one_more plan state one (two ∷ rest) h later = rw (h, later) refl
@@ -35,7 +35,7 @@ or_true : (a : Bool) → (a || true) ≡ true
 or_true true = refl
 or_true false = refl
 
-two_more : (plan : Plan) (state : State) (one two : Entry) (rest : List Entry) → adds_two plan state one two ≡ true →
+pub two_more : (plan : Plan) (state : State) (one two : Entry) (rest : List Entry) → adds_two plan state one two ≡ true →
     are_steps plan (after_entry plan (after_entry plan state one) two) rest ≡ true → are_steps plan state (one ∷ two ∷ rest) ≡ true
 two_more plan state one two rest h later =
     let both : (adds_two plan state one two && are_steps plan (after_entry plan (after_entry plan state one) two) rest) ≡ true = rw (h, later) refl in

@@ -14,3 +14,4 @@ pub mod TurnLemmas
 pub mod SlotLemmas
 pub mod ResultLemmas
 pub mod SettledLemmas
+pub mod LegalLemmas

@@ -64,6 +64,12 @@ pub fn waits()
         Contains (replies plan state thread asks.Act t) (Wait m) → NothingEnabled plan state t m }
 {}
 
+/// A legal history goes on legally with the entries of any step from the state behind it.
+pub fn goes_on()
+    ensures { (plan : Plan) (history : List Entry) (thread : ℕ) (ask : Ask) (t : ℕ) (r : Result) → IsLegal plan history →
+        IsStep plan (state_after plan history) thread ask t r → IsLegal plan (history ++ r.entries) }
+{}
+
 /// A front of a legal history is legal, unless it ends between the two entries of one step.
 pub fn fronts()
     ensures { (plan : Plan) (front rest : List Entry) → IsLegal plan (front ++ rest) → IsLegal plan front ⊎ EndsInside plan front }

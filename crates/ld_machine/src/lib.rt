@@ -19,6 +19,6 @@ pub use further_examples::{
 };
 pub use laws::{
     added_by_steps, always_answered, behind_a_stop, dropped_and_late, first_acts, fitting_tallies,
-    fronts, held_once, items_once, same_history, settled_items, slots_once, starts_alternate,
-    steps_leave, waits,
+    fronts, goes_on, held_once, items_once, same_history, settled_items, slots_once,
+    starts_alternate, steps_leave, waits,
 };
