@@ -1,9 +1,8 @@
-ghost use Rattle.std.specs.Prelude.{◌≡◌, ◌<◌, ◌≤◌, ◌↔◌, ℕ, IfOk, IfErr, IfSome, IfNone, IsTrue, Some, is_some, true, false, [], ◌∷◌, ◌++◌, option_to_list, filter, nat_lt, option_map, length};
+ghost use Rattle.std.specs.Prelude.{◌≡◌, ◌<◌, ◌≤◌, ℕ, IfOk, IfErr, IfSome, IfNone, IsTrue, Some, is_some, true, false, [], ◌∷◌, ◌++◌, option_to_list, filter, nat_lt, option_map, length};
 ghost use Rattle.ld_base.specs.declared.act.Act.TheVariants as acts;
 ghost use Rattle.ld_machine.specs.Scenario.{Scenario, first_of, runs, may_take, may_release, may_close, due_arrival, least_open_arrival, least_open_item};
 ghost use Rattle.ld_machine.specs.Moves.{Users, releases, takes};
 ghost use Rattle.ld_machine.specs.Plan.{due_moment};
-ghost use Rattle.ld_machine.specs.State.{held_count};
 ghost use Rattle.ld_machine.specs.Wait.{least_of, scenario_moments};
 ghost use Rattle.ld_machine.specs.Wishes.{WishesFirst};
 ghost use Rattle.ld_rates.specs.HeldUsers.{chosen_idle};
