@@ -15,3 +15,5 @@ pub mod SlotLemmas
 pub mod ResultLemmas
 pub mod SettledLemmas
 pub mod LegalLemmas
+pub mod LaterLemmas
+pub mod ShareEffectLemmas

@@ -33,26 +33,26 @@ module _ (users : Users) (n : ℕ) (s : Scenario) (t : ℕ) where
     | inr at ↦ absurd (nothing_in at.1)
   ]
 
-  from_closes : (move : Move) → In move (closes n s t) → Source users n s t move
+  pub from_closes : (move : Move) → In move (closes n s t) → Source users n s t move
   from_closes move h = elim (In-cond (may_close s t) move (CloseScenario n ∷ []) [] h) [
     | inl at ↦ subst (λ m. Source users n s t m) (In-one move (CloseScenario n) at.1) (by_close at.0)
     | inr at ↦ absurd (nothing_in at.1)
   ]
 
-  from_releases : (move : Move) → In move (releases n s t) → Source users n s t move
+  pub from_releases : (move : Move) → In move (releases n s t) → Source users n s t move
   from_releases move h =
       let found = In-map (λ (u : HeldUser). ReleaseUser n u.user) move (filter (λ (u : HeldUser). may_release s u.slot t) (idle_users s.share)) h in
       let kept = In-filter (λ (u : HeldUser). may_release s u.slot t) found.0 (idle_users s.share) found.1 in
       subst (λ m. Source users n s t m) found.2 (by_release found.0 kept.0 kept.1)
 
-  from_takes : (move : Move) → In move (takes n s users t) → Source users n s t move
+  pub from_takes : (move : Move) → In move (takes n s users t) → Source users n s t move
   from_takes move h =
       let found = In-flat_map (λ slot. map (λ user. TakeUser n user slot) users.free) move (filter (λ slot. may_take s slot t) (slots_to_take s.part.executor s)) h in
       let kept = In-filter (λ slot. may_take s slot t) found.0 (slots_to_take s.part.executor s) found.1 in
       let taken = In-map (λ user. TakeUser n user found.0) move users.free found.2 in
       subst (λ m. Source users n s t m) taken.2 (by_take taken.0 found.0 taken.1 kept.0 kept.1)
 
-  from_arrivals : (move : Move) → In move (arrivals n s users t) → Source users n s t move
+  pub from_arrivals : (move : Move) → In move (arrivals n s users t) → Source users n s t move
   from_arrivals move h =
       let P : Option Arrival → Type 0 = λ o. due_arrival s t ≡ o → In move (option_map_or (answers_to n s users t) o []) → Source users n s t move in
       let from : P (due_arrival s t) = elim (due_arrival s t) as P [
@@ -62,7 +62,7 @@ module _ (users : Users) (n : ℕ) (s : Scenario) (t : ℕ) where
             subst (λ m. Source users n s t m) found.2 (by_arrival a found.0 e found.1)
       ] in from refl h
 
-  from_starts : (move : Move) → In move (starts n s t) → Source users n s t move
+  pub from_starts : (move : Move) → In move (starts n s t) → Source users n s t move
   from_starts move h =
       let found = In-filter_map (start_on n s t) move (idle_users s.share) h in
       let P : Option ℕ → Type 0 = λ o. item_to_start s found.0.slot t ≡ o →
@@ -74,7 +74,7 @@ module _ (users : Users) (n : ℕ) (s : Scenario) (t : ℕ) where
             subst (λ m. Source users n s t m) same (by_start found.0 item found.1 e)
       ] in from refl found.2
 
-  from_drops : (move : Move) → In move (drops n s t) → Source users n s t move
+  pub from_drops : (move : Move) → In move (drops n s t) → Source users n s t move
   from_drops move h =
       let P : Option ℕ → Type 0 = λ o. item_to_drop s t ≡ o → In move (option_to_list (option_map (λ item. DropIteration n item) o)) → Source users n s t move in
       let from : P (item_to_drop s t) = elim (item_to_drop s t) as P [

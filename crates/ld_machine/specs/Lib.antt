@@ -23,3 +23,6 @@ pub mod FurtherExamples
 pub mod Stops
 pub mod Turns
 pub mod Slots
+pub mod ShareEffect
+pub mod Wishes
+pub mod WishExamples

@@ -1,6 +1,9 @@
 // The laws of the machine, over all plans, states and histories.
-ghost use Rattle.std.specs.Prelude.{◌≡◌, ◌==◌, count_by, ◌∷◌, ◌++◌, ◌⊎◌, ◌↔◌, ◌<◌, ◌≤◌, ℕ, List, [], Contains, IsTrue, length, Some, slice_get};
+ghost use Rattle.std.specs.Prelude.{◌≡◌, ◌≢◌, ◌==◌, count_by, ◌∷◌, ◌++◌, ◌⊎◌, ◌↔◌, ◌<◌, ◌≤◌, ℕ, List, [], Contains, IsTrue, length, Some, slice_get};
 ghost use Rattle.ld_base.specs.Tally.{TallyView, TallyFits};
+ghost use Rattle.ld_base.specs.declared.act.Act.{Act};
+ghost use Rattle.ld_base.specs.declared.act.Act.TheVariants.{Control};
+ghost use Rattle.ld_base.specs.declared.command.Command.{Command};
 ghost use Rattle.ld_base.specs.declared.ask.Ask.{Ask};
 ghost use Rattle.ld_base.specs.declared.ask.Ask.TheVariants as asks;
 ghost use Rattle.ld_base.specs.declared.reply.Reply.TheVariants.{Wait};
@@ -9,7 +12,8 @@ ghost use Rattle.ld_base.specs.declared.metric.NameSpec.{NameSpec};
 ghost use Rattle.ld_machine.specs.Plan.{Part, Plan, owned_items};
 ghost use Rattle.ld_machine.specs.Settled.{all_returned, has_items, is_distinct, items_in, IsSettled};
 ghost use Rattle.ld_machine.specs.State.{Share, State, times_held};
-ghost use Rattle.ld_machine.specs.Effect.{after_entries, state_after};
+ghost use Rattle.ld_machine.specs.Effect.{after_act, after_entries, state_after};
+ghost use Rattle.ld_machine.specs.ShareEffect.{scenario_of_act, share_after};
 ghost use Rattle.ld_machine.specs.Moves.{Move, enabled};
 ghost use Rattle.ld_machine.specs.Order.{place_of, first_moves};
 ghost use Rattle.ld_machine.specs.Samples.{tally_fits};
@@ -124,4 +128,17 @@ pub fn added_by_steps()
     ensures two { (plan : Plan) (state : State) (one two : Entry) →
         IsTrue (adds_two plan state one two)
         ↔ ((r : Result) × IsStep plan state one.thread (ask_for state one.act) one.reading r × (r.entries ≡ one ∷ two ∷ [])) }
+{}
+
+/// An act changes the share of its scenario alone, and a command changes each share; what becomes of a
+/// share is said by the share itself, its part, the thread, the reading and the act.
+pub fn shares_after_acts()
+    ensures own { (plan : Plan) (state : State) (thread t : ℕ) (act : Act) (n : ℕ) (part : Part) (share : Share) →
+        scenario_of_act act ≡ Some n → slice_get plan.parts n ≡ Some part → slice_get state.shares n ≡ Some share →
+        slice_get (after_act plan state thread t act).shares n ≡ Some (share_after part thread t act share) }
+    ensures others { (plan : Plan) (state : State) (thread t : ℕ) (act : Act) (n m : ℕ) → scenario_of_act act ≡ Some n → m ≢ n →
+        slice_get (after_act plan state thread t act).shares m ≡ slice_get state.shares m }
+    ensures commands { (plan : Plan) (state : State) (thread t : ℕ) (command : Command) (n : ℕ) (part : Part) (share : Share) →
+        slice_get state.shares n ≡ Some share →
+        slice_get (after_act plan state thread t (Control command)).shares n ≡ Some (share_after part thread t (Control command) share) }
 {}

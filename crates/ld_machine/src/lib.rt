@@ -8,6 +8,7 @@
 mod examples;
 mod further_examples;
 mod laws;
+mod wish_examples;
 
 pub use examples::{
     changed_dropped_arrival, changed_dropped_iteration, changed_grown_arrival,
@@ -19,6 +20,7 @@ pub use further_examples::{
 };
 pub use laws::{
     added_by_steps, always_answered, behind_a_stop, dropped_and_late, first_acts, fitting_tallies,
-    fronts, goes_on, held_once, items_once, same_history, settled_items, slots_once,
+    fronts, goes_on, held_once, items_once, same_history, settled_items, shares_after_acts, slots_once,
     starts_alternate, steps_leave, waits,
 };
+pub use wish_examples::{wishes, wishes_at_the_end};

@@ -1,0 +1,5 @@
+pub mod HeldUsers
+pub mod RatesView
+pub mod Shows
+pub mod Applies
+pub mod Answer

@@ -1,0 +1,22 @@
+//! One scenario at an arrival rate, as the pool's machine sees it: what it would do next at a reading,
+//! and what an act does to it.
+#![tactic(auto)]
+
+mod fault;
+mod held_user;
+mod held_users;
+mod laws;
+mod level;
+mod open_arrivals;
+mod rates_part;
+mod rates_state;
+
+pub use fault::ExecFault;
+pub use held_user::{HeldUser, Play};
+pub use laws::{distinct_items, enabled_acts, shown_numbers};
+pub use level::Level;
+pub use rates_part::RatesPart;
+pub use rates_state::RatesState;
+
+#[cfg(test)]
+mod tests;

@@ -1,0 +1,332 @@
+ghost use Rattle.std.specs.Prelude.{◌≡◌, ◌<◌, ◌≤◌, ℕ, IfOk, IfErr, IfSome, IfNone, IsTrue, Some, is_some, true, false, [], ◌∷◌, ◌++◌, option_to_list, filter, nat_lt, option_map, length};
+ghost use Rattle.ld_base.specs.declared.act.Act.TheVariants as acts;
+ghost use Rattle.ld_machine.specs.Scenario.{Scenario, first_of, runs, may_take, may_release, may_close, due_arrival, least_open_arrival, least_open_item};
+ghost use Rattle.ld_machine.specs.Moves.{Users, releases, takes};
+ghost use Rattle.ld_machine.specs.Plan.{due_moment};
+ghost use Rattle.ld_machine.specs.Wait.{least_of, scenario_moments};
+ghost use Rattle.ld_machine.specs.Wishes.{WishesFirst};
+ghost use Rattle.ld_rates.specs.HeldUsers.{chosen_idle};
+ghost use Rattle.ld_rates.specs.RatesView.{number_of};
+ghost use Rattle.ld_rates.specs.Shows.{Shows, ShowsOpening, Follows, kept_pair};
+ghost use Rattle.ld_rates.specs.Answer.{answer_of};
+ghost use Rattle.ld_rates.specs.Applies.{MayApply, MayApplyWished, ends_item, next_item};
+
+use crate::fault::ExecFault;
+use crate::held_user::Play;
+use crate::held_users::HeldUsers;
+use crate::level::Level;
+use crate::open_arrivals::OpenArrivals;
+use crate::rates_part::RatesPart;
+use ld_base::{Act, Command, Wish};
+use std::alloc::Global;
+use std::marker::Model;
+
+/// One scenario at an arrival rate, as it stands: its part, its level, the users that it holds and the
+/// arrivals that are still open. Readings and moments are in nanoseconds from the run's start.
+#[derive(Debug, Drop)]
+pub struct RatesState {
+    begin: u64,
+    end: u64,
+    grace: u64,
+    pre: u32,
+    waiting: OpenArrivals,
+    level: Level,
+    closed: bool,
+    held: HeldUsers,
+}
+
+impl Model for RatesState {
+    ghost use Rattle.std.specs.Prelude.{◌≤◌};
+    ghost use Rattle.ld_rates.specs.RatesView.{RatesView};
+
+    ghost Value = { RatesView };
+
+    ghost view = { λ s. record { begin = s.begin; end = s.end; grace = s.grace; pre = s.pre; max = s.held.room; waiting = s.waiting; level = s.level; closed = s.closed; held = s.held.users } };
+
+    ghost invariant = { λ s. s.pre ≤ s.held.room };
+}
+
+impl RatesState {
+    /// The scenario at its opening. Room for all that it does later is reserved here. Of the part's
+    /// numbers only those of the users have to fit: it takes no more at its begin than it may hold.
+    ///
+    /// Fails where there is no memory for that.
+    pub fn new(alloc: Global, part: RatesPart) -> Result<RatesState, ExecFault>
+        requires { part.pre ≤ part.max }
+        ensures opens { IfOk result (ShowsOpening part) }
+        ensures memory { IfErr result (λ fault. fault ≡ ExecFault.Memory) }
+    {
+        let RatesPart {
+            begin,
+            end,
+            grace,
+            pre,
+            max,
+            ticker,
+        } = part;
+        let held = HeldUsers::new(alloc, max)?;
+        Ok(RatesState {
+            begin,
+            end,
+            grace,
+            pre,
+            waiting: OpenArrivals::new(ticker),
+            level: Level::Runs,
+            closed: false,
+            held,
+        })
+    }
+
+    /// What the scenario would do first at a reading, its halt aside; `free` says whether a user of the
+    /// pool is free. Where the scenario may choose among its users it chooses `prefer`, if that is one
+    /// of them. `More` says that an arrival is due, that no held user is idle and that one more may be
+    /// held.
+    pub fn next_act(&self, reading: u64, free: bool, prefer: u32) -> Wish
+        ensures first { (s : Scenario) → Shows self.now s → WishesFirst s reading free prefer result }
+        ensures applies { MayApplyWished self.now result }
+    {
+        if let Some(user) = self.to_release(prefer, reading) {
+            return Wish::Release { user };
+        }
+        if let Some(slot) = self.to_take(free, reading) {
+            return Wish::Take { slot };
+        }
+        if let Some((item, moment)) = self.due_arrival(reading) {
+            return self.answer(item, moment, self.held.idle(prefer), reading);
+        }
+        if self.may_close(reading) {
+            Wish::Close
+        } else {
+            Wish::Nothing
+        }
+    }
+
+    /// Takes notice of an act of this scenario, or of a control, at a reading. It is one of these:
+    ///
+    /// - the act that `next_act` wished, with a user from 1 to 1,000 that the scenario doesn't hold
+    ///   where it is a Take;
+    /// - where `next_act` wished `More`, an act of the step that answers the arrival, with such a user
+    ///   where it is a Take or a Grow;
+    /// - the Return of an iteration that the scenario started and that wasn't returned yet;
+    /// - the scenario's Stop, or a Control.
+    ///
+    /// Takes no memory.
+    pub fn apply(&mut self, act: &Act, reading: u64)
+        requires { MayApply self.old act.now }
+        ensures follows { Follows self.old self.new act.now reading }
+        ensures others { ends_item act.now ≡ false → self.new.waiting ≡ self.old.waiting }
+    {
+        match act {
+            Act::Take { user, slot, .. } => self.held.hold(*user, *slot),
+            Act::Grow { user, slot, .. } => self.held.hold(*user, *slot),
+            Act::Start {
+                user,
+                item,
+                until,
+                ..
+            } => {
+                let play = Play {
+                    item: *item,
+                    until: *until,
+                };
+                self.held.set_play(*user, Some(play));
+                self.waiting.pass();
+            }
+            Act::Drop { .. } => self.waiting.pass(),
+            Act::Late { .. } => self.waiting.pass(),
+            Act::Return { user, .. } => self.held.set_play(*user, None),
+            Act::Release { user, .. } => self.held.let_go(*user),
+            Act::Stop { .. } => self.level = Level::Halted,
+            Act::Close { .. } => self.closed = true,
+            Act::Control { command } => self.obey(command, reading),
+        }
+    }
+
+    /// The least moment above the reading at which the clock may change what the scenario does; the
+    /// `until`s of busy users aside. None exactly where there is none.
+    pub fn candidate(&self, reading: u64) -> Option<u64>
+        ensures { (s : Scenario) → Shows self.now s → result ≡ least_of (filter (nat_lt reading) (scenario_moments s)) }
+    {
+        if self.closed {
+            return None;
+        }
+        match self.level {
+            Level::Runs => {
+                let end = lesser(above(reading, self.end), self.next_due(reading));
+                lesser(above(reading, self.begin), end)
+            }
+            Level::StartsNothing { commanded } => {
+                let over = commanded.saturating_add(self.grace);
+                above(reading, over)
+            }
+            Level::Halted => None,
+        }
+    }
+
+    /// The scenario's level: 0 where it runs, 1 where it starts nothing more, 2 where it was halted.
+    pub fn level(&self) -> u8
+        ensures { result ≡ number_of self.now.level }
+    {
+        match self.level {
+            Level::Runs => 0,
+            Level::StartsNothing { .. } => 1,
+            Level::Halted => 2,
+        }
+    }
+
+    /// Whether the scenario was closed.
+    pub fn is_closed(&self) -> bool
+        ensures { result ≡ self.now.closed }
+    {
+        self.closed
+    }
+
+    /// The least open item, or None exactly where none is open.
+    pub fn open_item(&self) -> Option<u64>
+        ensures kept { result ≡ next_item self.now }
+        ensures least { (s : Scenario) → Shows self.now s → result ≡ least_open_item s }
+    {
+        self.waiting.first().map(|pair| pair.0)
+    }
+
+    // When the next open arrival is due, if there is one and it is above the reading.
+    fn next_due(&self, reading: u64) -> Option<u64>
+        ensures { (s : Scenario) → Shows self.now s → option_to_list result ≡ filter (nat_lt reading) (option_to_list (option_map (due_moment s.part) (least_open_arrival s))) }
+    {
+        let (_, moment) = self.waiting.first()?;
+        above(reading, self.begin.saturating_add(moment))
+    }
+
+    // A command reaches an open scenario only where it is a stop.
+    fn obey(&mut self, command: &Command, reading: u64)
+        ensures follows { Follows self.old self.new (acts.Control command.now) reading }
+        ensures others { self.new.waiting ≡ self.old.waiting }
+    {
+        if *command == Command::Stop && !self.closed {
+            self.level = Level::StartsNothing { commanded: reading };
+        }
+    }
+
+    // Whether the scenario is open, at level 0.
+    fn runs(&self) -> bool
+        ensures { (s : Scenario) → Shows self.now s → result ≡ runs s }
+    {
+        !self.closed && self.level == Level::Runs
+    }
+
+    // The idle user that is to be released, if there is one.
+    fn to_release(&self, prefer: u32, reading: u64) -> Option<u32>
+        ensures some { IfSome result (λ user. chosen_idle prefer self.now.held ≡ Some user) }
+        ensures may { IfSome result (λ user. (s : Scenario) (slot : ℕ) → Shows self.now s → may_release s slot reading ≡ true) }
+        ensures none { IfNone result ((s : Scenario) (n : ℕ) → Shows self.now s → releases n s reading ≡ []) }
+    {
+        if self.may_release(reading) {
+            self.held.idle(prefer)
+        } else {
+            None
+        }
+    }
+
+    // The slot for which a free user is to be taken, if there is one.
+    fn to_take(&self, free: bool, reading: u64) -> Option<u32>
+        ensures some { IfSome result (λ slot. (free ≡ true) × (slot ≡ length self.now.held)) }
+        ensures may { IfSome result (λ slot. (s : Scenario) → Shows self.now s → may_take s slot reading ≡ true) }
+        ensures few { IfSome result (λ slot. length self.now.held < self.now.max) }
+        ensures none { IfNone result ((s : Scenario) (n : ℕ) (users : Users) → Shows self.now s → is_some (first_of users.free) ≡ free → takes n s users reading ≡ []) }
+    {
+        if free && self.may_take(reading) {
+            Some(self.held.count())
+        } else {
+            None
+        }
+    }
+
+    // Whether an idle user may be released.
+    fn may_release(&self, reading: u64) -> bool
+        ensures { (s : Scenario) (slot : ℕ) → Shows self.now s → result ≡ may_release s slot reading }
+    {
+        !self.closed && (!self.runs() || self.end <= reading)
+    }
+
+    // Whether a user may be taken, if one is free.
+    fn may_take(&self, reading: u64) -> bool
+        ensures shown { (s : Scenario) (slot : ℕ) → Shows self.now s → result ≡ may_take s slot reading }
+        ensures few { IsTrue result → length self.now.held < self.now.max }
+    {
+        self.runs() && self.begin <= reading && reading < self.end && self.held.count() < self.pre
+    }
+
+    // Whether the scenario may close.
+    fn may_close(&self, reading: u64) -> bool
+        ensures { (s : Scenario) → Shows self.now s → result ≡ may_close s reading }
+    {
+        if self.closed || self.held.count() != 0 {
+            return false;
+        }
+        !self.runs() || (self.waiting.first().is_none() && self.end <= reading)
+    }
+
+    // The arrival that is to be answered, if there is one, with its moment.
+    fn due_arrival(&self, reading: u64) -> Option<(u64, u64)>
+        ensures shown { (s : Scenario) → Shows self.now s → result ≡ option_map kept_pair (due_arrival s reading) }
+        ensures first { IfSome result (λ pair. next_item self.now ≡ Some pair.0) }
+    {
+        if !self.runs() {
+            return None;
+        }
+        let (item, moment) = self.waiting.first()?;
+        if self.begin.saturating_add(moment) <= reading {
+            Some((item, moment))
+        } else {
+            None
+        }
+    }
+
+    // What becomes of a due arrival, where this user is idle.
+    fn answer(&self, item: u64, moment: u64, idle: Option<u32>, reading: u64) -> Wish
+        ensures { result ≡ answer_of self.now (item, moment) idle reading }
+    {
+        let due = self.begin.saturating_add(moment);
+        let until = self.end.saturating_add(self.grace);
+        if self.end <= reading {
+            return Wish::Late { item, due };
+        }
+        if let Some(user) = idle {
+            return Wish::Start {
+                user,
+                item,
+                until,
+                due,
+            };
+        }
+        let slot = self.held.count();
+        if slot < self.held.room() {
+            Wish::More {
+                item,
+                until,
+                due,
+                slot,
+            }
+        } else {
+            Wish::Drop { item, due }
+        }
+    }
+}
+
+// A moment, if it is above the reading.
+fn above(reading: u64, moment: u64) -> Option<u64>
+    ensures { option_to_list result ≡ filter (nat_lt reading) (moment ∷ []) }
+{
+    if reading < moment { Some(moment) } else { None }
+}
+
+// The lesser of two moments, or the one that there is.
+fn lesser(a: Option<u64>, b: Option<u64>) -> Option<u64>
+    ensures { result ≡ least_of (option_to_list a ++ option_to_list b) }
+{
+    match (a, b) {
+        (Some(a), Some(b)) => Some(a.min(b)),
+        (Some(a), None) => Some(a),
+        (None, b) => b,
+    }
+}
