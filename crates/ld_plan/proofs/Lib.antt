@@ -1,0 +1,5 @@
+pub mod WholeLemmas
+pub mod RequirementLemmas
+pub mod OwnedLemmas
+pub mod TimesLemmas
+pub mod PlanLemmas
