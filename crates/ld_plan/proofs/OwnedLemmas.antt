@@ -1,12 +1,12 @@
 -- The items that a position owns of a scenario: how many they are, and which.
-use Rattle.std.proofs.Common.{◌≡◌, ◌<◌, ◌≤◌, ◌↔◌, ◌∙◌, ℕ, List, map, length, get_or, arith, refl, ap, sym}
-use Rattle.std.specs.Prelude.{All, Contains}
+use Rattle.std.proofs.Common.{◌≡◌, ◌<◌, ◌↔◌, ◌∙◌, ℕ, List, map, length, arith, refl, ap}
+use Rattle.std.specs.Prelude.{Contains}
 use Rattle.std.proofs.lemmas.List.{get_or-map, length-map}
 use Rattle.std.proofs.lemmas.List.Elements.{All-contains, All-contains_itself, All-map, All-weaker}
 use Rattle.ld_stripe.specs.Striping.{owner_at, share_at}
 use Rattle.ld_arrival.specs.Limits.{IsWithinLimits}
 use Rattle.ld_arrival.specs.Schedule.{owned_pairs, schedule}
-use Rattle.ld_arrival.specs.Timetable.{Timetable, moment_of, planned_count}
+use Rattle.ld_arrival.specs.Timetable.{moment_of, planned_count}
 use Rattle.ld_arrival.proofs.CountLemmas.{counted}
 use Rattle.ld_arrival.proofs.ScheduleLaws.{in_owned, in_schedule, owned_count}
 use Rattle.ld_machine.specs.Plan.{Arrival}
@@ -50,3 +50,16 @@ owned_item whole j item limits below =
           (All-map (λ k. owner_at whole.owners k ≡ j) (λ (a : Arrival). a.item) (map arrival_of owned)
           (All-map (λ (a : Arrival). owner_at whole.owners a.item ≡ j) arrival_of owned each)) has,
     )
+
+-- the moment of an owned arrival is that of its item
+pub owned_moment : (whole : Whole) (j : ℕ) → IsWithinLimits whole.timetable →
+    (a : Arrival) → Contains (owned_arrivals whole j) a → a.moment ≡ moment_of whole.timetable a.item
+owned_moment whole j limits a has =
+    let pairs = schedule whole.timetable in
+    let owned = owned_pairs whole.owners j pairs in
+    let each =
+    All-weaker (Contains owned) (λ (pair : ℕ × ℕ). pair.1 ≡ moment_of whole.timetable pair.0)
+    (λ pair kept. ((in_schedule whole.timetable limits pair.0 pair.1).0 ((in_owned whole.owners j pairs pair).0 kept).0).1)
+    owned (All-contains_itself owned) in
+    All-contains (λ (b : Arrival). b.moment ≡ moment_of whole.timetable b.item) (owned_arrivals whole j) a
+    (All-map (λ (b : Arrival). b.moment ≡ moment_of whole.timetable b.item) arrival_of owned each) has

@@ -1,7 +1,7 @@
 -- How many users one part of arrivals needs.
-use Rattle.std.proofs.Common.{◌≡◌, ◌<◌, ◌≤◌, ◌+◌, ◌-◌, ◌∙◌, ℕ, Bool, true, false, List, [], ◌∷◌, cond, inl, inr, arith, ap, ap₂}
-use Rattle.std.specs.Prelude.{◌&&◌, nat_le, nat_lt}
-use Rattle.std.proofs.lemmas.Bool.{cases_Bool, le-leb, lt-ltb}
+use Rattle.std.proofs.Common.{◌≡◌, ◌<◌, ◌≤◌, ◌+◌, ◌-◌, ◌∙◌, ℕ, Bool, true, false, List, [], ◌∷◌, cond, arith, ap, ap₂}
+use Rattle.std.specs.Prelude.{◌&&◌}
+use Rattle.std.proofs.lemmas.Bool.{le-leb, lt-ltb}
 use Rattle.ld_machine.specs.Plan.{Arrival, Executor, ArrivalRate, Part, hard_moment}
 use Rattle.ld_plan.specs.Requirement.{IsGreatest, IsRequirement, executor_need, executor_extra, extra, is_before, need}
 

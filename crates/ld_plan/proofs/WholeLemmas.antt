@@ -1,12 +1,12 @@
 -- The one position of a whole test owns every index, and no other striping has its weight.
-use Rattle.std.proofs.Common.{◌≡◌, ◌<◌, ◌≤◌, ◌*◌, ◌%◌, ◌∙◌, ℕ, zero, suc, List, [], ◌∷◌, cond, map, length, get_or, nat_eq, arith, refl, ap, ap₂, sym, subst}
+use Rattle.std.proofs.Common.{◌≡◌, ◌≤◌, ◌%◌, ◌∙◌, ℕ, List, [], ◌∷◌, cond, get_or, arith, refl, ap, ap₂, subst}
 use Rattle.std.specs.Int.{◌∣◌}
 use Rattle.std.proofs.Math.Nat.{mod-lt}
 use Rattle.std.proofs.lemmas.Bool.{eq-eqb}
 use Rattle.std.proofs.lemmas.List.Elements.{All-cons, All-head, All-nil}
 use Rattle.std.proofs.lemmas.Nat.Gcd.{dvd_refl}
 use Rattle.ld_arrival.specs.Schedule.{owned_pairs}
-use Rattle.ld_stripe.specs.Striping.{Striping, IsStriping, IsStripingOf, IsLowestTerms, owner_at, share_at, shares_at}
+use Rattle.ld_stripe.specs.Striping.{Striping, IsStriping, IsStripingOf, IsLowestTerms, owner_at, share_at}
 use Rattle.ld_stripe.proofs.DueLemmas.{owners_in_range}
 use Rattle.ld_stripe.proofs.LowestTermsLemmas.{one_form}
 use Rattle.ld_stripe.proofs.StripingLaws.{shares_sum, striping_exists}

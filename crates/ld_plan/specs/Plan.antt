@@ -1,5 +1,5 @@
 -- How a plan is seen, and what holds of its fields.
-use Rattle.std.specs.Prelude.{◌≡◌, ◌≤◌, ℕ, []}
+use Rattle.std.specs.Prelude.{◌≤◌, ℕ, []}
 use Rattle.ld_plan.specs.PartView.{parts_of, wholes_of}
 use Rattle.ld_plan.specs.PlanFault.{IsAccepted}
 use Rattle.ld_plan.specs.PlanView.{IsPlanOf, PlanView}

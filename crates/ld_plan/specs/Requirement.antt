@@ -1,7 +1,7 @@
 -- How many users a plan needs: those that its scenarios plan, and those that they may add, at each moment.
 use Rattle.std.specs.Prelude.{◌≡◌, ◌≤◌, ◌+◌, ◌-◌, ◌&&◌, ℕ, Bool, List, length, nat_le, nat_lt, count_by, sum_by, if◌then◌else◌}
 use Rattle.std.specs.List.{list_any}
-use Rattle.ld_machine.specs.Plan.{Interval, Executor, SharedIterations, PerVuIterations, ConstantVus, RampingVus, ArrivalRate, ExternallyControlled, Part, hard_moment, interval_hard_moment, on_moment, owned_slots}
+use Rattle.ld_machine.specs.Plan.{Interval, Executor, SharedIterations, RampingVus, ArrivalRate, ExternallyControlled, Part, hard_moment, interval_hard_moment, on_moment, owned_slots}
 
 -- the users, or the slots, that an instance owns of a scenario
 abbrev pub owned_users : Executor → ℕ

@@ -45,7 +45,7 @@ impl Part {
     ghost use Rattle.ld_arrival.specs.Limits.{most_arrivals};
     ghost use Rattle.ld_arrival.specs.Timetable.{moment_of, planned_count};
     ghost use Rattle.ld_machine.specs.Moment.{moment_after};
-    ghost use Rattle.ld_machine.specs.Plan.{owned_items};
+    ghost use Rattle.ld_machine.specs.Plan.{Arrival, due_moment, owned_items};
     ghost use Rattle.ld_machine.specs.Scenario.{executor_arrivals};
     ghost use Rattle.ld_plan.specs.PartView.{PartView};
     ghost use Rattle.ld_plan.specs.PlanFault.{IsRefusal};
@@ -105,7 +105,9 @@ impl Part {
     // The moment at which an arrival is due, in nanoseconds from the run's start.
     pub fn moment(&self, item: u64) -> u64
         requires { item < self.now.part.whole_items }
-        ensures { result ≡ moment_after self.now.part.begin (moment_of self.now.whole.timetable item) }
+        ensures moment { result ≡ moment_after self.now.part.begin (moment_of self.now.whole.timetable item) }
+        ensures due { (a : Arrival) → Contains (executor_arrivals self.now.part.executor) a → a.item ≡ item →
+            result ≡ due_moment self.now.part a }
     {
         self.begin.saturating_add(self.arrivals.moment(item))
     }

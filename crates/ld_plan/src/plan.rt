@@ -39,7 +39,7 @@ impl Plan {
     ghost use Rattle.std.specs.Prelude.{◌≡◌, ◌≢◌, ◌<◌, ◌≤◌, ◌↔◌, ℕ, Some, IsTrue, IfOk, IfErr, IsSomeAnd, Contains, length, map, slice_get};
     ghost use Rattle.ld_arrival.specs.Timetable.{moment_of};
     ghost use Rattle.ld_machine.specs.Moment.{moment_after};
-    ghost use Rattle.ld_machine.specs.Plan.{Part, owned_items};
+    ghost use Rattle.ld_machine.specs.Plan.{Arrival, Part, due_moment, owned_items};
     ghost use Rattle.ld_machine.specs.Scenario.{executor_arrivals};
     ghost use Rattle.ld_plan.specs.PartView.{PartView};
     ghost use Rattle.ld_plan.specs.Plan.{IsMade};
@@ -156,9 +156,11 @@ impl Plan {
     /// arrival is below the whole's number, and the instance need not own it.
     pub fn moment(&self, scenario: u16, item: u64) -> u64
         requires { IsSomeAnd (slice_get self.now.plan.parts scenario) (λ part. item < part.whole_items) }
-        ensures { IsSomeAnd (slice_get self.now.plan.parts scenario) (λ part.
+        ensures moment { IsSomeAnd (slice_get self.now.plan.parts scenario) (λ part.
             IsSomeAnd (slice_get self.now.wholes scenario) (λ whole.
             result ≡ moment_after part.begin (moment_of whole.timetable item))) }
+        ensures due { IsSomeAnd (slice_get self.now.plan.parts scenario) (λ part.
+            (a : Arrival) → Contains (executor_arrivals part.executor) a → a.item ≡ item → result ≡ due_moment part a) }
     {
         self.part(scenario).moment(item)
     }

@@ -1,3 +1,5 @@
+ghost use Rattle.std.specs.Prelude.{◌≤◌};
+
 use super::*;
 use ld_base::IndexSource;
 use std::alloc::Global;
@@ -68,7 +70,10 @@ fn ticker_has_the_owned_arrivals(rt: HostRuntime) -> Result<(), Fail> {
 }
 
 /// Why a test is refused, or None where it has a plan.
-fn fault(alloc: Global, test: &RateTest, entries: u32) -> Option<PlanFault> {
+fn fault(alloc: Global, test: &RateTest, entries: u32) -> Option<PlanFault>
+    requires least { 10 ≤ entries }
+    requires most { entries ≤ 1000000 }
+{
     Plan::of_rate_test(alloc, test, entries).err()
 }
 
@@ -151,4 +156,16 @@ fn arrivals_are_refused(rt: HostRuntime) {
 fn paths_are_those_of_the_document(rt: HostRuntime) {
     assert_eq!(rt; Field::Rate.path(), "/options/scenarios/main/rate");
     assert_eq!(rt; Field::MaxVus.path(), "/options/scenarios/main/maxVUs");
+}
+
+/// A fault names the path of its field.
+#[test]
+fn faults_name_their_fields(rt: HostRuntime) -> Result<(), Fail> {
+    let fault = PlanFault::Range(Field::TimeUnit);
+    let text = format!(in rt.alloc(); "{fault}")?;
+    assert_eq!(rt;
+        text.as_str(),
+        "/options/scenarios/main/timeUnit is out of range"
+    );
+    Ok(())
 }

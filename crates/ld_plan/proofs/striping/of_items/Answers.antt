@@ -1,6 +1,5 @@
 use Rattle.std.proofs.Common.{◌∷◌, [], subst}
 use Rattle.ld_stripe.specs.Striping.{Striping, IsStripingOf, shares_at}
-use Rattle.ld_plan.specs.PlanView.{whole_striping}
 use Rattle.ld_plan.proofs.WholeLemmas.{only_striping, share_of_whole}
 use Rattle.ld_plan.proofs.striping.of_items.Goals as goal
 

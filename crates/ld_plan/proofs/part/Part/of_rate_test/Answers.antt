@@ -1,4 +1,4 @@
-use Rattle.std.proofs.Common.{◌≡◌, ◌∙◌, ℕ, arith, ap, rules, sym}
+use Rattle.std.proofs.Common.{◌≡◌, ◌∙◌, ℕ, arith, ap, rules}
 use Rattle.ld_stripe.specs.Striping.{Striping, share_at}
 use Rattle.ld_plan.proofs.WholeLemmas.{share_of_whole}
 use Rattle.ld_plan.proofs.part.Part.of_rate_test.Goals as goal

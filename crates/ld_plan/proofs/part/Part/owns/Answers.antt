@@ -1,7 +1,6 @@
-use Rattle.std.proofs.Common.{◌<◌, ◌∙◌, arith, subst, sym}
+use Rattle.std.proofs.Common.{◌<◌, ◌∙◌, subst, sym}
 use Rattle.std.proofs.lemmas.Bool.{eq-eqb, eqb-true}
 use Rattle.ld_arrival.specs.Limits.{IsWithinLimits}
-use Rattle.ld_arrival.specs.Timetable.{planned_count}
 use Rattle.ld_plan.specs.Part.{whole_view}
 use Rattle.ld_plan.specs.PartView.{PartView}
 use Rattle.ld_plan.proofs.OwnedLemmas.{owned_item}
