@@ -3,3 +3,4 @@ pub mod RequirementLemmas
 pub mod OwnedLemmas
 pub mod TimesLemmas
 pub mod PlanLemmas
+pub mod RefusalLemmas

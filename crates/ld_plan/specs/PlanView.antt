@@ -36,7 +36,8 @@ arrival_of pair = record { item = pair.0; moment = pair.1 }
 abbrev pub owned_arrivals : Whole → ℕ → List Arrival
 owned_arrivals whole j = map arrival_of (owned_pairs whole.owners j (schedule whole.timetable))
 
--- the scenario of the whole test; its striping is the same for any number of users
+-- The scenario of the whole test. Its items are striped by the shares that the positions have of its
+-- greatest number of users, and the one position's striping stays as it is.
 abbrev pub whole_of : RateTest → Whole
 whole_of test = record { timetable = timetable_of test; owners = whole_striping.owners }
 

@@ -23,12 +23,14 @@ abbrev pub needs_user : Part → ℕ → ℕ → Interval → Bool
 needs_user part ramp_grace t interval =
     nat_le (on_moment part interval) t && nat_lt t (interval_hard_moment part ramp_grace interval)
 
+-- the users that a scenario plans at t
 abbrev pub executor_need : Executor → Part → ℕ → ℕ
 executor_need (RampingVus ramp_grace slots) part t =
     count_by (λ r. list_any (needs_user part ramp_grace t) r.intervals) slots
 executor_need (ExternallyControlled _ _ slots) part t = if is_before part part.end t then length slots else 0
 executor_need executor part t = if is_before part (hard_moment part) t then owned_users executor else 0
 
+-- the users that a scenario may add at t; but for the arrival kinds they are none
 abbrev pub executor_extra : Executor → Part → ℕ → ℕ
 executor_extra executor part t =
     if is_before part (hard_moment part) t then most_owned_users executor - owned_users executor else 0

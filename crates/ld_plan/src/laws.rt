@@ -1,5 +1,5 @@
 // The laws of plans.
-ghost use Rattle.std.specs.Prelude.{◌≡◌, ◌≤◌, ◌∷◌, [], ℕ, List, map};
+ghost use Rattle.std.specs.Prelude.{◌≡◌, ◌≤◌, ◌⊎◌, ◌∷◌, [], ℕ, List, map};
 ghost use Rattle.ld_arrival.specs.Schedule.{schedule};
 ghost use Rattle.ld_machine.specs.Plan.{Part, ArrivalRate};
 ghost use Rattle.ld_stripe.specs.Striping.{IsStripingOf, shares_at};
@@ -10,9 +10,12 @@ ghost use Rattle.ld_plan.specs.Requirement.{IsRequirement};
 ghost use Rattle.ld_plan.specs.declared.fault.PlanFault.{PlanFault};
 ghost use Rattle.ld_plan.specs.declared.rate_test.RateTest.{RateTest};
 
-/// A test that is accepted has no refusal.
-pub fn accepted_tests()
-    ensures { (test : RateTest) (entries : ℕ) (fault : PlanFault) → IsAccepted test entries → IsRefusal test entries fault → ⊥ }
+/// A test is either accepted or refused.
+pub fn accepted_or_refused()
+    ensures either { (test : RateTest) (entries : ℕ) →
+        IsAccepted test entries ⊎ ((fault : PlanFault) × IsRefusal test entries fault) }
+    ensures not_both { (test : RateTest) (entries : ℕ) (fault : PlanFault) →
+        IsAccepted test entries → IsRefusal test entries fault → ⊥ }
 {}
 
 /// A test has at most one refusal.

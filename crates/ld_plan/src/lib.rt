@@ -13,7 +13,9 @@ mod users;
 
 pub use fault::PlanFault;
 pub use field::Field;
-pub use laws::{accepted_tests, one_plan, one_position, one_refusal, one_requirement, plays_whole};
+pub use laws::{
+    accepted_or_refused, one_plan, one_position, one_refusal, one_requirement, plays_whole,
+};
 pub use plan::Plan;
 pub use rate_test::RateTest;
 pub use row::Row;

@@ -43,7 +43,7 @@ impl Plan {
     ghost use Rattle.ld_machine.specs.Scenario.{executor_arrivals};
     ghost use Rattle.ld_plan.specs.PartView.{PartView};
     ghost use Rattle.ld_plan.specs.Plan.{IsMade};
-    ghost use Rattle.ld_plan.specs.PlanFault.{IsRefusal};
+    ghost use Rattle.ld_plan.specs.PlanFault.{IsAccepted, IsRefusal};
     ghost use Rattle.ld_plan.specs.PlanView.{IsPlanOf, Whole, arrival_of};
     ghost use Rattle.ld_plan.specs.RateTest.{most_users};
     ghost use Rattle.ld_plan.specs.Requirement.{IsRequirement};
@@ -61,7 +61,8 @@ impl Plan {
         requires least { 10 ≤ entries }
         requires most { entries ≤ 1000000 }
         ensures plan { IfOk result (IsPlanOf test.now entries) }
-        ensures accepted { IfOk result (λ _. (f : PlanFault) → IsRefusal test.now entries f → ⊥) }
+        ensures accepted { IfOk result (λ _. IsAccepted test.now entries) }
+        ensures unrefused { IfOk result (λ _. (f : PlanFault) → IsRefusal test.now entries f → ⊥) }
         ensures refused { IfErr result (λ f. f ≢ Memory → IsRefusal test.now entries f) }
     {
         let test = *test;
