@@ -1,0 +1,6 @@
+pub mod WholeLemmas
+pub mod RequirementLemmas
+pub mod OwnedLemmas
+pub mod TimesLemmas
+pub mod PlanLemmas
+pub mod RefusalLemmas

@@ -1,0 +1,5 @@
+use Rattle.ld_plan.proofs.RefusalLemmas as lemmas
+use Rattle.ld_plan.proofs.laws.accepted_or_refused.Goals as goal
+
+pub returns-clause-either : goal.returns-clause-either
+returns-clause-either c = lemmas.accepted_or_refused

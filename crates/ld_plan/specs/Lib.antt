@@ -1,0 +1,9 @@
+pub mod Field
+pub mod RateTest
+pub mod Requirement
+pub mod Row
+pub mod PlanView
+pub mod PartView
+pub mod Part
+pub mod Plan
+pub mod PlanFault

@@ -1,0 +1,198 @@
+ghost use Rattle.std.specs.Prelude.{◌≡◌, ◌<◌, ◌≤◌, ◌∷◌, [], IfOk};
+
+use crate::fault::PlanFault;
+use crate::part::Part;
+use crate::rate_test::RateTest;
+use crate::row::Row;
+use crate::users::Users;
+use ld_arrival::Ticker;
+use std::alloc::{AllocError, Global};
+use std::marker::Model;
+
+/// The plan of one instance: what it owns of a test, and how many users that needs. It is seen as
+/// the plan of the pool's machine, beside the position that it plays and the scenarios of the whole
+/// test.
+///
+/// Scenarios are numbered from 0, in byte order of their names. Items are numbered from 0, over the
+/// whole test.
+#[derive(Debug, Drop)]
+pub struct Plan {
+    position: usize,
+    parts: Vec<Part>,
+    users: Users,
+    entries: u32,
+}
+
+impl Model for Plan {
+    ghost use Rattle.ld_plan.specs.PlanView.{PlanView};
+
+    ghost Value = { PlanView };
+
+    ghost use Rattle.ld_plan.specs.Plan.{plan_view, IsPlan};
+
+    ghost view = { plan_view };
+
+    ghost invariant = { IsPlan };
+}
+
+impl Plan {
+    ghost use Rattle.std.specs.Prelude.{◌≡◌, ◌≢◌, ◌<◌, ◌≤◌, ◌↔◌, ℕ, Some, IsTrue, IfOk, IfErr, IsSomeAnd, Contains, length, map, slice_get};
+    ghost use Rattle.ld_arrival.specs.Timetable.{moment_of};
+    ghost use Rattle.ld_machine.specs.Moment.{moment_after};
+    ghost use Rattle.ld_machine.specs.Plan.{Arrival, Part, due_moment, owned_items};
+    ghost use Rattle.ld_machine.specs.Scenario.{executor_arrivals};
+    ghost use Rattle.ld_plan.specs.PartView.{PartView};
+    ghost use Rattle.ld_plan.specs.Plan.{IsMade};
+    ghost use Rattle.ld_plan.specs.PlanFault.{IsAccepted, IsRefusal};
+    ghost use Rattle.ld_plan.specs.PlanView.{IsPlanOf, Whole, arrival_of};
+    ghost use Rattle.ld_plan.specs.RateTest.{most_users};
+    ghost use Rattle.ld_plan.specs.Requirement.{IsRequirement};
+    ghost use Rattle.ld_plan.specs.Row.{row_of};
+    ghost use Rattle.ld_plan.specs.declared.fault.PlanFault.{PlanFault};
+    ghost use Rattle.ld_plan.specs.declared.fault.PlanFault.TheVariants.{Memory};
+
+    /// The plan of an instance that plays the whole of a test, with at most `entries` entries in its
+    /// journal, from 10 to 1,000,000.
+    ///
+    /// Refused are, in this order: `rate`, `unit`, `duration` and `pre` out of their ranges; a `max`
+    /// below `pre`; `max` out of its range; more than 400,000 planned arrivals; and `entries` below
+    /// 2 for each owned item plus 1 for the scenario.
+    pub fn of_rate_test(alloc: Global, test: &RateTest, entries: u32) -> Result<Plan, PlanFault>
+        requires least { 10 ≤ entries }
+        requires most { entries ≤ 1000000 }
+        ensures plan { IfOk result (IsPlanOf test.now entries) }
+        ensures accepted { IfOk result (λ _. IsAccepted test.now entries) }
+        ensures unrefused { IfOk result (λ _. (f : PlanFault) → IsRefusal test.now entries f → ⊥) }
+        ensures refused { IfErr result (λ f. f ≢ Memory → IsRefusal test.now entries f) }
+    {
+        let test = *test;
+        test.check()?;
+        let part = Part::of_rate_test(alloc, test)?;
+        let needed = 2 * part.owned() + 1;
+        if needed > entries as u64 {
+            return Err(PlanFault::JournalTooSmall {
+                needed,
+                limit: entries,
+            });
+        }
+        let users = part.requirement();
+        Ok(Plan {
+            position: 0,
+            parts: one_part(alloc, part)?,
+            users,
+            entries,
+        })
+    }
+
+    /// The position of the sequence that the instance plays, from 0.
+    pub fn position(&self) -> usize
+        ensures { result ≡ self.now.position }
+    {
+        self.position
+    }
+
+    /// How many users the plan needs.
+    pub fn users(&self) -> Users
+        ensures planned { result.planned ≡ self.now.plan.planned }
+        ensures limit { result.limit ≡ self.now.plan.limit }
+        ensures requirement { IsRequirement self.now.plan.parts result.planned result.limit }
+        ensures within { result.planned ≤ result.limit }
+        ensures most { result.limit ≤ most_users }
+    {
+        self.users
+    }
+
+    /// How many entries the instance's journal may have, from 10 to 1,000,000.
+    pub fn entries(&self) -> u32
+        ensures entries { result ≡ self.now.plan.entry_limit }
+        ensures least { 10 ≤ result }
+        ensures most { result ≤ 1000000 }
+    {
+        self.entries
+    }
+
+    /// How many scenarios there are.
+    pub fn scenarios(&self) -> u16
+        ensures count { result ≡ length self.now.plan.parts }
+        ensures whole { result ≡ length self.now.wholes }
+        ensures made { IsMade self.now }
+    {
+        self.parts.len() as u16
+    }
+
+    // The part of a scenario.
+    fn part(&self, scenario: u16) -> &Part
+        requires { scenario < length self.now.plan.parts }
+        ensures part { slice_get self.now.plan.parts scenario ≡ Some result.now.part }
+        ensures whole { slice_get self.now.wholes scenario ≡ Some result.now.whole }
+    {
+        &self.parts[scenario as usize]
+    }
+
+    /// How many items of a scenario the whole test has.
+    pub fn whole_items(&self, scenario: u16) -> u64
+        requires { scenario < length self.now.plan.parts }
+        ensures { IsSomeAnd (slice_get self.now.plan.parts scenario) (λ part. result ≡ part.whole_items) }
+    {
+        self.part(scenario).whole_items()
+    }
+
+    /// How many items of a scenario the instance owns.
+    pub fn owned(&self, scenario: u16) -> u64
+        requires { scenario < length self.now.plan.parts }
+        ensures { IsSomeAnd (slice_get self.now.plan.parts scenario) (λ part. result ≡ length (owned_items part.executor)) }
+    {
+        self.part(scenario).owned()
+    }
+
+    /// Whether the instance owns an item of a scenario. The item is below the whole's number.
+    pub fn owns(&self, scenario: u16, item: u64) -> bool
+        requires { IsSomeAnd (slice_get self.now.plan.parts scenario) (λ part. item < part.whole_items) }
+        ensures { IsSomeAnd (slice_get self.now.plan.parts scenario) (λ part. IsTrue result ↔ Contains (owned_items part.executor) item) }
+    {
+        self.part(scenario).owns(item)
+    }
+
+    /// The moment at which an arrival of a scenario is due, in nanoseconds from the run's start. The
+    /// arrival is below the whole's number, and the instance need not own it.
+    pub fn moment(&self, scenario: u16, item: u64) -> u64
+        requires { IsSomeAnd (slice_get self.now.plan.parts scenario) (λ part. item < part.whole_items) }
+        ensures moment { IsSomeAnd (slice_get self.now.plan.parts scenario) (λ part.
+            IsSomeAnd (slice_get self.now.wholes scenario) (λ whole.
+            result ≡ moment_after part.begin (moment_of whole.timetable item))) }
+        ensures due { IsSomeAnd (slice_get self.now.plan.parts scenario) (λ part.
+            (a : Arrival) → Contains (executor_arrivals part.executor) a → a.item ≡ item → result ≡ due_moment part a) }
+    {
+        self.part(scenario).moment(item)
+    }
+
+    /// The numbers of a scenario.
+    pub fn row(&self, scenario: u16) -> Row
+        requires { scenario < length self.now.plan.parts }
+        ensures { IsSomeAnd (slice_get self.now.plan.parts scenario) (λ part. result ≡ row_of part) }
+    {
+        self.part(scenario).row()
+    }
+
+    /// A ticker of the arrivals that the instance owns of a scenario, of which none was given.
+    ///
+    /// Fails where there is no memory for them.
+    pub fn ticker(&self, alloc: Global, scenario: u16) -> Result<Ticker, PlanFault>
+        requires { scenario < length self.now.plan.parts }
+        ensures arrivals { IfOk result (λ ticker. IsSomeAnd (slice_get self.now.plan.parts scenario)
+            (λ part. map arrival_of ticker ≡ executor_arrivals part.executor)) }
+        ensures memory { IfErr result (λ f. f ≡ Memory) }
+    {
+        self.part(scenario).ticker(alloc)
+    }
+}
+
+// The list of one part.
+fn one_part(alloc: Global, part: Part) -> Result<Vec<Part>, AllocError>
+    ensures { IfOk result (λ parts. parts.items ≡ part ∷ []) }
+{
+    match Vec::from_array(alloc, [part]) {
+        Ok(parts) => Ok(parts),
+        Err(failed) => Err(AllocError::from(failed)),
+    }
+}
