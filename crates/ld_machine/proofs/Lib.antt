@@ -14,3 +14,5 @@ pub mod TurnLemmas
 pub mod SlotLemmas
 pub mod ResultLemmas
 pub mod SettledLemmas
+pub mod FirstOfAllLemmas
+pub mod CandidateLemmas

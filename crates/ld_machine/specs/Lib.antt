@@ -23,3 +23,4 @@ pub mod FurtherExamples
 pub mod Stops
 pub mod Turns
 pub mod Slots
+pub mod Together

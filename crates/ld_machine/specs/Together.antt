@@ -1,0 +1,54 @@
+-- Many scenarios put together: what the first act of all and the next candidate are made of.
+use Rattle.std.specs.Prelude.{◌≡◌, ◌<◌, ◌≤◌, ◌++◌, ℕ, false, nat_lt, List, [], filter, filter_map, flat_map, min, Option, None, Some, Contains, slice_get}
+use Rattle.ld_machine.specs.Plan.{Plan}
+use Rattle.ld_machine.specs.State.{HeldUser, Share, State}
+use Rattle.ld_machine.specs.Scenario.{Scenario}
+use Rattle.ld_machine.specs.Moves.{Move, users_of, moves_of, scenarios}
+use Rattle.ld_machine.specs.Order.{is_before, place_of}
+use Rattle.ld_machine.specs.Wait.{busy_until, scenario_moments, untils, least_of}
+
+-- the act is one that scenario number n may perform at t
+abbrev pub IsActOf : Plan → State → ℕ → ℕ → Move → Type 0
+IsActOf plan state t n m =
+    (s : Scenario) × (slice_get (scenarios plan state) n ≡ Some s) × Contains (moves_of (users_of plan state) n s t) m
+
+-- no scenario may perform an act at t that is before this one
+abbrev pub NoneBefore : Plan → State → ℕ → Move → Type 0
+NoneBefore plan state t m = (k : ℕ) (other : Move) → IsActOf plan state t k other → is_before (place_of other) (place_of m) ≡ false
+
+-- no scenario may perform an act at t
+abbrev pub NoneActs : Plan → State → ℕ → Type 0
+NoneActs plan state t = (n : ℕ) (s : Scenario) → slice_get (scenarios plan state) n ≡ Some s → moves_of (users_of plan state) n s t ≡ []
+
+-- the lesser of two moments; one that isn't there is later than all
+abbrev pub lesser : Option ℕ → Option ℕ → Option ℕ
+lesser None other = other
+lesser (Some a) None = Some a
+lesser (Some a) (Some b) = Some (min a b)
+
+-- the least of some moments above t
+abbrev pub least_above : ℕ → List ℕ → Option ℕ
+least_above t moments = least_of (filter (nat_lt t) moments)
+
+-- the least moment above t of some scenarios, and the least of these and of their users' `until`s
+abbrev pub least_moment : ℕ → List Scenario → Option ℕ
+least_moment t scenarios = least_above t (flat_map scenario_moments scenarios)
+
+abbrev pub least_with_untils : ℕ → List Scenario → Option ℕ
+least_with_untils t scenarios = least_above t (flat_map (λ (s : Scenario). scenario_moments s ++ untils s.share) scenarios)
+
+-- the least `until` above t of some held users, of whom the idle ones have none, and of all that
+-- some shares hold
+abbrev pub least_until : ℕ → List HeldUser → Option ℕ
+least_until t held = least_above t (filter_map (λ (h : HeldUser). busy_until h.condition) held)
+
+abbrev pub least_until_in : ℕ → List Share → Option ℕ
+least_until_in t shares = least_above t (flat_map untils shares)
+
+-- of some moments m is one, and at most each of them
+abbrev pub IsLeast : List ℕ → ℕ → Type 0
+IsLeast moments m = Contains moments m × ((x : ℕ) → Contains moments x → m ≤ x)
+
+-- of some moments m is one above t, and at most each of them that is above t
+abbrev pub IsLeastAbove : ℕ → List ℕ → ℕ → Type 0
+IsLeastAbove t moments m = Contains moments m × (t < m) × ((x : ℕ) → Contains moments x → t < x → m ≤ x)

@@ -1,0 +1,118 @@
+// The laws by which many scenarios are put together: the first act of all, the next candidate, and
+// who is busy and who is free.
+ghost use Rattle.std.specs.Prelude.{◌≡◌, ◌==◌, ◌&&◌, ◌||◌, ◌++◌, ◌∷◌, ◌+◌, ◌↔◌, ◌<◌, ◌≤◌, ℕ, true, false, not, List, [], Contains, length, Option, Some, None, nat_lt, option_to_list, if◌then◌else◌, slice_get};
+ghost use Rattle.ld_base.specs.declared.ask.Ask.TheVariants as asks;
+ghost use Rattle.ld_base.specs.declared.reply.Reply.TheVariants.{Wait, Over};
+ghost use Rattle.ld_machine.specs.Plan.{Plan};
+ghost use Rattle.ld_machine.specs.State.{HeldUser, Share, State, all_closed};
+ghost use Rattle.ld_machine.specs.Scenario.{Scenario};
+ghost use Rattle.ld_machine.specs.Moves.{Move, scenarios};
+ghost use Rattle.ld_machine.specs.Order.{is_before, place_of, first_moves};
+ghost use Rattle.ld_machine.specs.Wait.{busy_until, scenario_moments, least_of, next_candidate, wait_moment};
+ghost use Rattle.ld_machine.specs.Step.{answered, move_result, results};
+ghost use Rattle.ld_machine.specs.Together.{IsActOf, NoneBefore, NoneActs, lesser, least_above, least_moment, least_with_untils, least_until, least_until_in, IsLeast, IsLeastAbove};
+
+/// No place is before itself, and what is before a place is before all that the place is before. So
+/// of two places one at most is before the other. Of the places of acts, where a first isn't before
+/// a second nor the second before a third, the first isn't before the third.
+pub fn order_of_places()
+    ensures itself { (place : List ℕ) → is_before place place ≡ false }
+    ensures along { (a b c : List ℕ) → is_before a b ≡ true → is_before b c ≡ true → is_before a c ≡ true }
+    ensures once { (a b : List ℕ) → is_before a b ≡ true → is_before b a ≡ false }
+    ensures not_before { (a b c : Move) → is_before (place_of a) (place_of b) ≡ false →
+        is_before (place_of b) (place_of c) ≡ false → is_before (place_of a) (place_of c) ≡ false }
+{}
+
+/// The first acts are those of some scenario that no act of any scenario is before. To see that an
+/// act is one, it is enough to know for each act of a scenario a further one that it isn't before and
+/// that isn't before the first: as the best of its scenario.
+pub fn first_of_all()
+    ensures are { (plan : Plan) (state : State) (t : ℕ) (m : Move) →
+        Contains (first_moves plan state t) m ↔ (((n : ℕ) × IsActOf plan state t n m) × NoneBefore plan state t m) }
+    ensures by_each { (plan : Plan) (state : State) (t n : ℕ) (m : Move) → IsActOf plan state t n m →
+        ((k : ℕ) (other : Move) → IsActOf plan state t k other →
+         (best : Move) × (is_before (place_of other) (place_of best) ≡ false) × (is_before (place_of best) (place_of m) ≡ false)) →
+        Contains (first_moves plan state t) m }
+{}
+
+/// Where no scenario may perform an act, an ask for an act gives a wait and nothing else, if some
+/// scenario is open.
+pub fn nothing_first()
+    ensures none { (plan : Plan) (state : State) (t : ℕ) → NoneActs plan state t → first_moves plan state t ≡ [] }
+    ensures waits { (plan : Plan) (state : State) (thread t : ℕ) → NoneActs plan state t → all_closed state ≡ false →
+        results plan state thread asks.Act t ≡ answered state (Wait (wait_moment plan state t)) ∷ [] }
+{}
+
+/// Where all scenarios are closed, an ask for an act gives `Over` and nothing else; all are closed
+/// exactly where each is, and then none may perform an act.
+pub fn all_over()
+    ensures over { (plan : Plan) (state : State) (thread t : ℕ) → all_closed state ≡ true →
+        results plan state thread asks.Act t ≡ answered state Over ∷ [] }
+    ensures each { (state : State) → (all_closed state ≡ true) ↔ ((n : ℕ) (share : Share) → slice_get state.shares n ≡ Some share → share.closed ≡ true) }
+    ensures nothing { (plan : Plan) (state : State) (t n : ℕ) (m : Move) → IsActOf plan state t n m → all_closed state ≡ false }
+{}
+
+/// What a first act gives is among the results of an ask for an act.
+pub fn first_performed()
+    ensures { (plan : Plan) (state : State) (thread t : ℕ) (m : Move) → Contains (first_moves plan state t) m →
+        Contains (results plan state thread asks.Act t) (move_result plan state thread t m) }
+{}
+
+/// Of some moments the least is one of them and at most each; there is none exactly where there are
+/// no moments. The least of two lists in a row is the lesser of their leasts.
+pub fn least_candidate()
+    ensures least { (moments : List ℕ) (m : ℕ) → (least_of moments ≡ Some m) ↔ IsLeast moments m }
+    ensures none { (moments : List ℕ) → (least_of moments ≡ None) ↔ (moments ≡ []) }
+    ensures joined { (front back : List ℕ) → least_of (front ++ back) ≡ lesser (least_of front) (least_of back) }
+{}
+
+/// The same of the moments above t. Of one moment the least above t is itself, if it is above t.
+pub fn least_above_reading()
+    ensures least { (t : ℕ) (moments : List ℕ) (m : ℕ) → (least_above t moments ≡ Some m) ↔ IsLeastAbove t moments m }
+    ensures none { (t : ℕ) (moments : List ℕ) → (least_above t moments ≡ None) ↔ ((x : ℕ) → Contains moments x → x ≤ t) }
+    ensures one { (t m : ℕ) → least_above t (m ∷ []) ≡ (if nat_lt t m then Some m else None) }
+    ensures joined { (t : ℕ) (front back : List ℕ) → least_above t (front ++ back) ≡ lesser (least_above t front) (least_above t back) }
+{}
+
+/// In which order and how moments are compared doesn't matter for the lesser one.
+pub fn lesser_of_moments()
+    ensures none { (a : Option ℕ) → lesser a None ≡ a }
+    ensures swapped { (a b : Option ℕ) → lesser a b ≡ lesser b a }
+    ensures along { (a b c : Option ℕ) → lesser (lesser a b) c ≡ lesser a (lesser b c) }
+{}
+
+/// The next candidate is the lesser of the least moment of the scenarios and the least `until` of the
+/// shares, above the reading. Where there is a share for each part, it is the least of what each
+/// scenario has of both.
+pub fn next_candidate_of_parts()
+    ensures parts { (plan : Plan) (state : State) (t : ℕ) →
+        next_candidate plan state t ≡ lesser (least_moment t (scenarios plan state)) (least_until_in t state.shares) }
+    ensures each { (plan : Plan) (state : State) (t : ℕ) → length plan.parts ≡ length state.shares →
+        next_candidate plan state t ≡ least_with_untils t (scenarios plan state) }
+{}
+
+/// The least moment of scenarios, one scenario more at a time, at the back or at the front.
+pub fn least_moment_steps()
+    ensures back { (t : ℕ) (front : List Scenario) (s : Scenario) →
+        least_moment t (front ++ s ∷ []) ≡ lesser (least_moment t front) (least_above t (scenario_moments s)) }
+    ensures front { (t : ℕ) (s : Scenario) (rest : List Scenario) →
+        least_moment t (s ∷ rest) ≡ lesser (least_above t (scenario_moments s)) (least_moment t rest) }
+    ensures back_with_untils { (t : ℕ) (front : List Scenario) (s : Scenario) →
+        least_with_untils t (front ++ s ∷ [])
+        ≡ lesser (least_with_untils t front) (lesser (least_above t (scenario_moments s)) (least_until t s.share.held)) }
+    ensures front_with_untils { (t : ℕ) (s : Scenario) (rest : List Scenario) →
+        least_with_untils t (s ∷ rest)
+        ≡ lesser (lesser (least_above t (scenario_moments s)) (least_until t s.share.held)) (least_with_untils t rest) }
+{}
+
+/// The least `until` of held users and of shares, one more at a time, at the back or at the front.
+pub fn least_until_steps()
+    ensures back { (t : ℕ) (front : List HeldUser) (h : HeldUser) →
+        least_until t (front ++ h ∷ []) ≡ lesser (least_until t front) (least_above t (option_to_list (busy_until h.condition))) }
+    ensures front { (t : ℕ) (h : HeldUser) (rest : List HeldUser) →
+        least_until t (h ∷ rest) ≡ lesser (least_above t (option_to_list (busy_until h.condition))) (least_until t rest) }
+    ensures back_share { (t : ℕ) (front : List Share) (share : Share) →
+        least_until_in t (front ++ share ∷ []) ≡ lesser (least_until_in t front) (least_until t share.held) }
+    ensures front_share { (t : ℕ) (share : Share) (rest : List Share) →
+        least_until_in t (share ∷ rest) ≡ lesser (least_until t share.held) (least_until_in t rest) }
+{}
