@@ -16,3 +16,4 @@ pub mod ResultLemmas
 pub mod SettledLemmas
 pub mod FirstOfAllLemmas
 pub mod CandidateLemmas
+pub mod BusyLemmas

@@ -1,7 +1,7 @@
 -- Many scenarios put together: what the first act of all and the next candidate are made of.
-use Rattle.std.specs.Prelude.{◌≡◌, ◌<◌, ◌≤◌, ◌++◌, ℕ, false, nat_lt, List, [], filter, filter_map, flat_map, min, Option, None, Some, Contains, slice_get}
+use Rattle.std.specs.Prelude.{◌≡◌, ◌<◌, ◌≤◌, ◌++◌, ℕ, Bool, true, false, nat_lt, List, [], filter, filter_map, flat_map, min, Option, None, Some, Contains, slice_get}
 use Rattle.ld_machine.specs.Plan.{Plan}
-use Rattle.ld_machine.specs.State.{HeldUser, Share, State}
+use Rattle.ld_machine.specs.State.{HeldUser, Share, State, times_among}
 use Rattle.ld_machine.specs.Scenario.{Scenario}
 use Rattle.ld_machine.specs.Moves.{Move, users_of, moves_of, scenarios}
 use Rattle.ld_machine.specs.Order.{is_before, place_of}
@@ -52,3 +52,8 @@ IsLeast moments m = Contains moments m × ((x : ℕ) → Contains moments x → 
 -- of some moments m is one above t, and at most each of them that is above t
 abbrev pub IsLeastAbove : ℕ → List ℕ → ℕ → Type 0
 IsLeastAbove t moments m = Contains moments m × (t < m) × ((x : ℕ) → Contains moments x → t < x → m ≤ x)
+
+-- the share holds the user once, and it passes the test
+abbrev pub HoldsOnce : (HeldUser → Bool) → Share → ℕ → Type 0
+HoldsOnce passes share user =
+    (times_among user share.held ≤ 1) × ((h : HeldUser) × Contains share.held h × (h.user ≡ user) × (passes h ≡ true))

@@ -1,16 +1,21 @@
 // The laws by which many scenarios are put together: the first act of all, the next candidate, and
 // who is busy and who is free.
-ghost use Rattle.std.specs.Prelude.{◌≡◌, ◌==◌, ◌&&◌, ◌||◌, ◌++◌, ◌∷◌, ◌+◌, ◌↔◌, ◌<◌, ◌≤◌, ℕ, true, false, not, List, [], Contains, length, Option, Some, None, nat_lt, option_to_list, if◌then◌else◌, slice_get};
+ghost use Rattle.std.specs.Prelude.{◌≡◌, ◌==◌, ◌&&◌, ◌||◌, ◌++◌, ◌∷◌, ◌+◌, ◌↔◌, ◌<◌, ◌≤◌, ℕ, Bool, true, false, not, List, [], Contains, length, Option, Some, None, nat_lt, option_to_list, if◌then◌else◌, slice_get};
+ghost use Rattle.ld_base.specs.Tally.{TallyView};
+ghost use Rattle.ld_base.specs.declared.act.Act.TheVariants as acts;
+ghost use Rattle.ld_base.specs.declared.act.Outcome.{Outcome};
+ghost use Rattle.ld_base.specs.declared.command.Command.{Command};
 ghost use Rattle.ld_base.specs.declared.ask.Ask.TheVariants as asks;
 ghost use Rattle.ld_base.specs.declared.reply.Reply.TheVariants.{Wait, Over};
-ghost use Rattle.ld_machine.specs.Plan.{Plan};
-ghost use Rattle.ld_machine.specs.State.{HeldUser, Share, State, all_closed};
+ghost use Rattle.ld_machine.specs.Plan.{Part, Plan};
+ghost use Rattle.ld_machine.specs.State.{Level, Idle, Busy, HeldUser, Share, State, is_idle, is_busy, busy_users, busy_count, all_closed};
 ghost use Rattle.ld_machine.specs.Scenario.{Scenario};
 ghost use Rattle.ld_machine.specs.Moves.{Move, scenarios};
 ghost use Rattle.ld_machine.specs.Order.{is_before, place_of, first_moves};
 ghost use Rattle.ld_machine.specs.Wait.{busy_until, scenario_moments, least_of, next_candidate, wait_moment};
+ghost use Rattle.ld_machine.specs.Effect.{hold, put_condition, let_go, end_item, change_share, after_act};
 ghost use Rattle.ld_machine.specs.Step.{answered, move_result, results};
-ghost use Rattle.ld_machine.specs.Together.{IsActOf, NoneBefore, NoneActs, lesser, least_above, least_moment, least_with_untils, least_until, least_until_in, IsLeast, IsLeastAbove};
+ghost use Rattle.ld_machine.specs.Together.{IsActOf, NoneBefore, NoneActs, lesser, least_above, least_moment, least_with_untils, least_until, least_until_in, IsLeast, IsLeastAbove, HoldsOnce};
 
 /// No place is before itself, and what is before a place is before all that the place is before. So
 /// of two places one at most is before the other. Of the places of acts, where a first isn't before
@@ -115,4 +120,53 @@ pub fn least_until_steps()
         least_until_in t (front ++ share ∷ []) ≡ lesser (least_until_in t front) (least_until t share.held) }
     ensures front_share { (t : ℕ) (share : Share) (rest : List Share) →
         least_until_in t (share ∷ rest) ≡ lesser (least_until t share.held) (least_until_in t rest) }
+{}
+
+/// What a change of one share does to its busy users: to hold a user, to let an idle one go and to end
+/// an item leaves them; of a user held once an idle one that becomes busy is one more, and a busy one
+/// that becomes idle one less.
+pub fn busy_in_share()
+    ensures held { (user slot : ℕ) (share : Share) → busy_users (hold user slot share) ≡ busy_users share }
+    ensures let_go { (user : ℕ) (share : Share) → HoldsOnce is_idle share user → busy_users (let_go user share) ≡ busy_users share }
+    ensures started { (user thread item until : ℕ) (share : Share) → HoldsOnce is_idle share user →
+        length (busy_users (put_condition user (Busy thread item until) share)) ≡ length (busy_users share) + 1 }
+    ensures returned { (user : ℕ) (share : Share) → HoldsOnce is_busy share user →
+        length (busy_users (put_condition user Idle share)) + 1 ≡ length (busy_users share) }
+    ensures ended { (part : Part) (item : ℕ) (share : Share) → busy_users (end_item part item share) ≡ busy_users share }
+    ensures level { (level : Level) (share : Share) → busy_users (record share { level = level }) ≡ busy_users share }
+    ensures closed { (closed : Bool) (share : Share) → busy_users (record share { closed = closed }) ≡ busy_users share }
+{}
+
+/// The count of all busy users changes as that of the changed share does; where there is no share of
+/// the number, nothing changes.
+pub fn busy_under_change()
+    ensures changed { (state : State) (n : ℕ) (change : Share → Share) (share : Share) → slice_get state.shares n ≡ Some share →
+        busy_count (change_share state n change) + length (busy_users share) ≡ busy_count state + length (busy_users (change share)) }
+    ensures same { (state : State) (n : ℕ) (change : Share → Share) → ((share : Share) → busy_users (change share) ≡ busy_users share) →
+        busy_count (change_share state n change) ≡ busy_count state }
+    ensures absent { (state : State) (n : ℕ) (change : Share → Share) → slice_get state.shares n ≡ None → change_share state n change ≡ state }
+{}
+
+/// How many users are busy behind each act: one more behind a Start on an idle user, one less behind a
+/// Return, and as many behind all others, if only idle users are released.
+pub fn busy_behind_acts()
+    ensures take { (plan : Plan) (state : State) (thread t n user slot : ℕ) →
+        busy_count (after_act plan state thread t (acts.Take n user slot)) ≡ busy_count state }
+    ensures grow { (plan : Plan) (state : State) (thread t n user slot : ℕ) →
+        busy_count (after_act plan state thread t (acts.Grow n user slot)) ≡ busy_count state }
+    ensures start { (plan : Plan) (state : State) (thread t n user item until : ℕ) (share : Share) → slice_get state.shares n ≡ Some share →
+        HoldsOnce is_idle share user → busy_count (after_act plan state thread t (acts.Start n user item until)) ≡ busy_count state + 1 }
+    ensures dropped { (plan : Plan) (state : State) (thread t n item : ℕ) →
+        busy_count (after_act plan state thread t (acts.Drop n item)) ≡ busy_count state }
+    ensures late { (plan : Plan) (state : State) (thread t n item : ℕ) →
+        busy_count (after_act plan state thread t (acts.Late n item)) ≡ busy_count state }
+    ensures returned { (plan : Plan) (state : State) (thread t n user item : ℕ) (outcome : Outcome) (tally : TallyView) (share : Share) →
+        slice_get state.shares n ≡ Some share → HoldsOnce is_busy share user →
+        busy_count (after_act plan state thread t (acts.Return n user item outcome tally)) + 1 ≡ busy_count state }
+    ensures release { (plan : Plan) (state : State) (thread t n user : ℕ) (share : Share) → slice_get state.shares n ≡ Some share →
+        HoldsOnce is_idle share user → busy_count (after_act plan state thread t (acts.Release n user)) ≡ busy_count state }
+    ensures stop { (plan : Plan) (state : State) (thread t n : ℕ) → busy_count (after_act plan state thread t (acts.Stop n)) ≡ busy_count state }
+    ensures close { (plan : Plan) (state : State) (thread t n : ℕ) → busy_count (after_act plan state thread t (acts.Close n)) ≡ busy_count state }
+    ensures control { (plan : Plan) (state : State) (thread t : ℕ) (command : Command) →
+        busy_count (after_act plan state thread t (acts.Control command)) ≡ busy_count state }
 {}
