@@ -17,7 +17,7 @@ use Rattle.ld_machine.proofs.FirstOfAllLemmas.{In-of, false_unless}
 
 -- ---- one share
 
-same_number : (a b : ℕ) → (a == b) ≡ true → a ≡ b
+pub same_number : (a b : ℕ) → (a == b) ≡ true → a ≡ b
 same_number a b h = grind (arith, common_steps)
 
 -- a user that is held once is held in one way

@@ -17,3 +17,4 @@ pub mod SettledLemmas
 pub mod FirstOfAllLemmas
 pub mod CandidateLemmas
 pub mod BusyLemmas
+pub mod FreeLemmas

@@ -1,5 +1,6 @@
 -- Many scenarios put together: what the first act of all and the next candidate are made of.
-use Rattle.std.specs.Prelude.{◌≡◌, ◌<◌, ◌≤◌, ◌++◌, ℕ, Bool, true, false, nat_lt, List, [], filter, filter_map, flat_map, min, Option, None, Some, Contains, slice_get}
+use Rattle.std.specs.Prelude.{◌≡◌, ◌<◌, ◌≤◌, ◌++◌, ◌==◌, ℕ, Bool, true, false, nat_lt, List, [], filter, filter_map, flat_map, min, Option, None, Some, Contains, slice_get}
+use Rattle.std.specs.List.{list_any}
 use Rattle.ld_machine.specs.Plan.{Plan}
 use Rattle.ld_machine.specs.State.{HeldUser, Share, State, times_among}
 use Rattle.ld_machine.specs.Scenario.{Scenario}
@@ -57,3 +58,7 @@ IsLeastAbove t moments m = Contains moments m × (t < m) × ((x : ℕ) → Conta
 abbrev pub HoldsOnce : (HeldUser → Bool) → Share → ℕ → Type 0
 HoldsOnce passes share user =
     (times_among user share.held ≤ 1) × ((h : HeldUser) × Contains share.held h × (h.user ≡ user) × (passes h ≡ true))
+
+-- the share holds the user
+abbrev pub holds : ℕ → Share → Bool
+holds user share = list_any (λ (h : HeldUser). h.user == user) share.held

@@ -1,6 +1,6 @@
 // The laws by which many scenarios are put together: the first act of all, the next candidate, and
 // who is busy and who is free.
-ghost use Rattle.std.specs.Prelude.{◌≡◌, ◌==◌, ◌&&◌, ◌||◌, ◌++◌, ◌∷◌, ◌+◌, ◌↔◌, ◌<◌, ◌≤◌, ℕ, Bool, true, false, not, List, [], Contains, length, Option, Some, None, nat_lt, option_to_list, if◌then◌else◌, slice_get};
+ghost use Rattle.std.specs.Prelude.{◌≡◌, ◌≢◌, ◌==◌, ◌&&◌, ◌||◌, ◌++◌, ◌∷◌, ◌+◌, ◌↔◌, ◌<◌, ◌≤◌, ℕ, Bool, true, false, not, List, [], Contains, length, Option, Some, None, nat_lt, option_to_list, if◌then◌else◌, slice_get};
 ghost use Rattle.ld_base.specs.Tally.{TallyView};
 ghost use Rattle.ld_base.specs.declared.act.Act.TheVariants as acts;
 ghost use Rattle.ld_base.specs.declared.act.Outcome.{Outcome};
@@ -8,14 +8,14 @@ ghost use Rattle.ld_base.specs.declared.command.Command.{Command};
 ghost use Rattle.ld_base.specs.declared.ask.Ask.TheVariants as asks;
 ghost use Rattle.ld_base.specs.declared.reply.Reply.TheVariants.{Wait, Over};
 ghost use Rattle.ld_machine.specs.Plan.{Part, Plan};
-ghost use Rattle.ld_machine.specs.State.{Level, Idle, Busy, HeldUser, Share, State, is_idle, is_busy, busy_users, busy_count, all_closed};
+ghost use Rattle.ld_machine.specs.State.{Level, Condition, Idle, Busy, HeldUser, Share, State, is_idle, is_busy, busy_users, busy_count, is_held, free_users, times_among, times_held, all_closed};
 ghost use Rattle.ld_machine.specs.Scenario.{Scenario};
 ghost use Rattle.ld_machine.specs.Moves.{Move, scenarios};
 ghost use Rattle.ld_machine.specs.Order.{is_before, place_of, first_moves};
 ghost use Rattle.ld_machine.specs.Wait.{busy_until, scenario_moments, least_of, next_candidate, wait_moment};
 ghost use Rattle.ld_machine.specs.Effect.{hold, put_condition, let_go, end_item, change_share, after_act};
 ghost use Rattle.ld_machine.specs.Step.{answered, move_result, results};
-ghost use Rattle.ld_machine.specs.Together.{IsActOf, NoneBefore, NoneActs, lesser, least_above, least_moment, least_with_untils, least_until, least_until_in, IsLeast, IsLeastAbove, HoldsOnce};
+ghost use Rattle.ld_machine.specs.Together.{IsActOf, NoneBefore, NoneActs, lesser, least_above, least_moment, least_with_untils, least_until, least_until_in, IsLeast, IsLeastAbove, HoldsOnce, holds};
 
 /// No place is before itself, and what is before a place is before all that the place is before. So
 /// of two places one at most is before the other. Of the places of acts, where a first isn't before
@@ -169,4 +169,37 @@ pub fn busy_behind_acts()
     ensures close { (plan : Plan) (state : State) (thread t n : ℕ) → busy_count (after_act plan state thread t (acts.Close n)) ≡ busy_count state }
     ensures control { (plan : Plan) (state : State) (thread t : ℕ) (command : Command) →
         busy_count (after_act plan state thread t (acts.Control command)) ≡ busy_count state }
+{}
+
+/// Whom a share holds behind a change of it: behind `hold` the user and whoever was held, behind
+/// `let_go` all but the user, and behind all other changes the same.
+pub fn held_in_share()
+    ensures held { (user slot other : ℕ) (share : Share) → holds other (hold user slot share) ≡ ((user == other) || holds other share) }
+    ensures let_go { (user : ℕ) (share : Share) → holds user (let_go user share) ≡ false }
+    ensures others { (user other : ℕ) (share : Share) → other ≢ user → holds other (let_go user share) ≡ holds other share }
+    ensures put { (user other : ℕ) (condition : Condition) (share : Share) → holds other (put_condition user condition share) ≡ holds other share }
+    ensures same { (user : ℕ) (a b : Share) → a.held ≡ b.held → holds user a ≡ holds user b }
+{}
+
+/// Who is held by some share behind a change of one.
+pub fn held_under_change()
+    ensures held { (state : State) (n user slot other : ℕ) (share : Share) → slice_get state.shares n ≡ Some share →
+        is_held (change_share state n (hold user slot)) other ≡ ((user == other) || is_held state other) }
+    ensures let_go { (state : State) (n user : ℕ) (share : Share) → slice_get state.shares n ≡ Some share → holds user share ≡ true →
+        times_held user state.shares ≤ 1 → is_held (change_share state n (let_go user)) user ≡ false }
+    ensures others { (state : State) (n user other : ℕ) → other ≢ user →
+        is_held (change_share state n (let_go user)) other ≡ is_held state other }
+    ensures put { (state : State) (n user other : ℕ) (condition : Condition) →
+        is_held (change_share state n (put_condition user condition)) other ≡ is_held state other }
+    ensures same { (state : State) (n user : ℕ) (change : Share → Share) → ((share : Share) → (change share).held ≡ share.held) →
+        is_held (change_share state n change) user ≡ is_held state user }
+    ensures among { (state : State) (n user : ℕ) (share : Share) → slice_get state.shares n ≡ Some share →
+        times_among user share.held ≤ times_held user state.shares }
+{}
+
+/// A user is free exactly where it was made, numbered from 1, and no share holds it. Where as many
+/// are made and the same are held, the same are free.
+pub fn free_where()
+    ensures free { (state : State) (user : ℕ) → Contains (free_users state) user ↔ ((1 ≤ user) × (user ≤ state.made) × (is_held state user ≡ false)) }
+    ensures same { (a b : State) → a.made ≡ b.made → ((user : ℕ) → is_held a user ≡ is_held b user) → free_users a ≡ free_users b }
 {}
