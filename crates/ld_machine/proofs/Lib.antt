@@ -15,6 +15,7 @@ pub mod SlotLemmas
 pub mod ResultLemmas
 pub mod SettledLemmas
 pub mod FirstOfAllLemmas
+pub mod FirstOfEachLemmas
 pub mod CandidateLemmas
 pub mod BusyLemmas
 pub mod FreeLemmas

@@ -5,7 +5,7 @@ use Rattle.ld_machine.specs.Plan.{Plan}
 use Rattle.ld_machine.specs.State.{HeldUser, Share, State, times_among}
 use Rattle.ld_machine.specs.Scenario.{Scenario}
 use Rattle.ld_machine.specs.Moves.{Move, users_of, moves_of, scenarios}
-use Rattle.ld_machine.specs.Order.{is_before, place_of}
+use Rattle.ld_machine.specs.Order.{is_before, place_of, first_among}
 use Rattle.ld_machine.specs.Wait.{busy_until, scenario_moments, untils, least_of}
 
 -- the act is one that scenario number n may perform at t
@@ -20,6 +20,22 @@ NoneBefore plan state t m = (k : ℕ) (other : Move) → IsActOf plan state t k 
 -- no scenario may perform an act at t
 abbrev pub NoneActs : Plan → State → ℕ → Type 0
 NoneActs plan state t = (n : ℕ) (s : Scenario) → slice_get (scenarios plan state) n ≡ Some s → moves_of (users_of plan state) n s t ≡ []
+
+-- the act is a first one of those that scenario number n may perform at t
+abbrev pub IsFirstOf : Plan → State → ℕ → ℕ → Move → Type 0
+IsFirstOf plan state t n m =
+    (s : Scenario) × (slice_get (scenarios plan state) n ≡ Some s) × Contains (first_among (moves_of (users_of plan state) n s t)) m
+
+-- the act is one of a scenario of a number below k, and none that these may perform is before it
+abbrev pub IsFirstBelow : Plan → State → ℕ → ℕ → Move → Type 0
+IsFirstBelow plan state t k m =
+    ((n : ℕ) × (n < k) × IsActOf plan state t n m)
+    × ((n : ℕ) (other : Move) → n < k → IsActOf plan state t n other → is_before (place_of other) (place_of m) ≡ false)
+
+-- no scenario of a number below k may perform an act at t
+abbrev pub NoneActsBelow : Plan → State → ℕ → ℕ → Type 0
+NoneActsBelow plan state t k =
+    (n : ℕ) (s : Scenario) → n < k → slice_get (scenarios plan state) n ≡ Some s → moves_of (users_of plan state) n s t ≡ []
 
 -- the lesser of two moments; one that isn't there is later than all
 abbrev pub lesser : Option ℕ → Option ℕ → Option ℕ

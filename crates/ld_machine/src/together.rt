@@ -10,12 +10,12 @@ ghost use Rattle.ld_base.specs.declared.reply.Reply.TheVariants.{Wait, Over};
 ghost use Rattle.ld_machine.specs.Plan.{Part, Plan};
 ghost use Rattle.ld_machine.specs.State.{Level, Condition, Idle, Busy, HeldUser, Share, State, is_idle, is_busy, busy_users, busy_count, is_held, free_users, times_among, times_held, all_closed};
 ghost use Rattle.ld_machine.specs.Scenario.{Scenario};
-ghost use Rattle.ld_machine.specs.Moves.{Move, scenarios};
-ghost use Rattle.ld_machine.specs.Order.{is_before, place_of, first_moves};
+ghost use Rattle.ld_machine.specs.Moves.{Move, users_of, moves_of, scenarios};
+ghost use Rattle.ld_machine.specs.Order.{is_before, place_of, first_among, first_moves};
 ghost use Rattle.ld_machine.specs.Wait.{busy_until, scenario_moments, least_of, next_candidate, wait_moment};
 ghost use Rattle.ld_machine.specs.Effect.{hold, put_condition, let_go, end_item, change_share, after_act};
 ghost use Rattle.ld_machine.specs.Step.{answered, move_result, results};
-ghost use Rattle.ld_machine.specs.Together.{IsActOf, NoneBefore, NoneActs, lesser, least_above, least_moment, least_with_untils, least_until, least_until_in, IsLeast, IsLeastAbove, HoldsOnce, holds};
+ghost use Rattle.ld_machine.specs.Together.{IsActOf, NoneBefore, NoneActs, IsFirstOf, IsFirstBelow, NoneActsBelow, lesser, least_above, least_moment, least_with_untils, least_until, least_until_in, IsLeast, IsLeastAbove, HoldsOnce, holds};
 
 /// No place is before itself, and what is before a place is before all that the place is before. So
 /// of two places one at most is before the other. Of the places of acts, where a first isn't before
@@ -38,6 +38,45 @@ pub fn first_of_all()
         ((k : ℕ) (other : Move) → IsActOf plan state t k other →
          (best : Move) × (is_before (place_of other) (place_of best) ≡ false) × (is_before (place_of best) (place_of m) ≡ false)) →
         Contains (first_moves plan state t) m }
+{}
+
+/// The first acts of a list are those of it that no other is before; where there are acts, there is
+/// a first one.
+pub fn first_of_list()
+    ensures are { (moves : List Move) (m : Move) → Contains (first_among moves) m
+        ↔ (Contains moves m × ((other : Move) → Contains moves other → is_before (place_of other) (place_of m) ≡ false)) }
+    ensures exist { (moves : List Move) (other : Move) → Contains moves other → (m : Move) × Contains (first_among moves) m }
+{}
+
+/// A first act of all is a first one of its scenario; and an act that no first one of any scenario is
+/// before is a first one of all.
+pub fn first_of_each()
+    ensures its { (plan : Plan) (state : State) (t : ℕ) (m : Move) → Contains (first_moves plan state t) m → (n : ℕ) × IsFirstOf plan state t n m }
+    ensures by_firsts { (plan : Plan) (state : State) (t n : ℕ) (m : Move) → IsActOf plan state t n m →
+        ((k : ℕ) (first : Move) → IsFirstOf plan state t k first → is_before (place_of first) (place_of m) ≡ false) →
+        Contains (first_moves plan state t) m }
+{}
+
+/// To look for a first act one scenario after another: the first that comes is kept until a scenario's
+/// first act is before it, and at the end it is a first act of all.
+pub fn first_step_by_step()
+    ensures start { (plan : Plan) (state : State) (t : ℕ) → NoneActsBelow plan state t 0 }
+    ensures none { (plan : Plan) (state : State) (t k : ℕ) → NoneActsBelow plan state t k →
+        ((s : Scenario) → slice_get (scenarios plan state) k ≡ Some s → moves_of (users_of plan state) k s t ≡ []) →
+        NoneActsBelow plan state t (k + 1) }
+    ensures found { (plan : Plan) (state : State) (t k : ℕ) (m : Move) → NoneActsBelow plan state t k → IsFirstOf plan state t k m →
+        IsFirstBelow plan state t (k + 1) m }
+    ensures kept_by_none { (plan : Plan) (state : State) (t k : ℕ) (m : Move) → IsFirstBelow plan state t k m →
+        ((s : Scenario) → slice_get (scenarios plan state) k ≡ Some s → moves_of (users_of plan state) k s t ≡ []) →
+        IsFirstBelow plan state t (k + 1) m }
+    ensures kept { (plan : Plan) (state : State) (t k : ℕ) (m other : Move) → IsFirstBelow plan state t k m → IsFirstOf plan state t k other →
+        is_before (place_of other) (place_of m) ≡ false → IsFirstBelow plan state t (k + 1) m }
+    ensures replaced { (plan : Plan) (state : State) (t k : ℕ) (m other : Move) → IsFirstBelow plan state t k m → IsFirstOf plan state t k other →
+        is_before (place_of other) (place_of m) ≡ true → IsFirstBelow plan state t (k + 1) other }
+    ensures first { (plan : Plan) (state : State) (t k : ℕ) (m : Move) → length (scenarios plan state) ≤ k → IsFirstBelow plan state t k m →
+        Contains (first_moves plan state t) m }
+    ensures nothing { (plan : Plan) (state : State) (t k : ℕ) → length (scenarios plan state) ≤ k → NoneActsBelow plan state t k →
+        NoneActs plan state t }
 {}
 
 /// Where no scenario may perform an act, an ask for an act gives a wait and nothing else, if some
