@@ -4,12 +4,15 @@ use Rattle.std.specs.Option.{option_map_or}
 use Rattle.std.specs.List.{list_any}
 use Rattle.std.proofs.lemmas.Bool.{true≢false}
 use Rattle.std.proofs.lemmas.Grind.{common_steps}
+use Rattle.ld_base.specs.Tally.{TallyView}
+use Rattle.ld_base.specs.declared.act.Act.TheVariants.{Take, Grow, Start, Return, Release, Stop, Close}
+use Rattle.ld_base.specs.declared.act.Outcome.{Outcome}
 use Rattle.ld_base.specs.declared.command.Command.{Command}
 use Rattle.ld_base.specs.declared.command.Command.TheVariants as commands
 use Rattle.ld_machine.specs.Plan.{Part, Plan, owned_items}
-use Rattle.ld_machine.specs.State.{StartsNothing, Condition, Idle, Busy, HeldUser, Share, State, is_idle_condition, is_busy_condition, is_idle, is_busy, busy_users, busy_count, times_among, times_held}
+use Rattle.ld_machine.specs.State.{StartsNothing, Halted, Condition, Idle, Busy, HeldUser, Share, State, is_idle_condition, is_busy_condition, is_idle, is_busy, busy_users, busy_count, times_among, times_held}
 use Rattle.ld_machine.specs.Commands.{stop_commanded_share, after_command}
-use Rattle.ld_machine.specs.Effect.{with_user, if_user, hold, put_condition, let_go, end_item, change_at, change_share, end_item_of}
+use Rattle.ld_machine.specs.Effect.{after_act, with_user, if_user, hold, put_condition, let_go, end_item, change_at, change_share, end_item_of}
 use Rattle.ld_machine.specs.Together.{HoldsOnce}
 use Rattle.ld_machine.proofs.ListLemmas.{In, here, there, nothing_in, number_itself}
 use Rattle.ld_machine.proofs.TurnLemmas.{among_there}
@@ -211,3 +214,40 @@ busy_command state commands.Stop t = ap length (same_all t state.shares)
 busy_command state (commands.Pause b) t = refl
 busy_command state (commands.Vus n) t = refl
 busy_command state (commands.VusMax n) t = refl
+
+-- ---- acts
+
+module _ (plan : Plan) (state : State) (thread t n : ℕ) where
+  pub take_busy : (user slot : ℕ) → busy_count (after_act plan state thread t (Take n user slot)) ≡ busy_count state
+  take_busy user slot = busy_same state n (hold user slot) (busy_hold user slot)
+
+  pub grow_busy : (user slot : ℕ) → busy_count (after_act plan state thread t (Grow n user slot)) ≡ busy_count state
+  grow_busy user slot = busy_same state n (hold user slot) (busy_hold user slot)
+
+  pub start_busy : (user item until : ℕ) (share : Share) → slice_get state.shares n ≡ Some share → HoldsOnce is_idle share user →
+      busy_count (after_act plan state thread t (Start n user item until)) ≡ busy_count state + 1
+  start_busy user item until share at idle =
+      let ended = busy_end plan n item (change_share state n (put_condition user (Busy thread item until))) in
+      let changed = busy_share state n (put_condition user (Busy thread item until)) share at in
+      let one = busy_put_busy user thread item until share idle in
+      omega arith
+
+  pub return_busy : (user item : ℕ) (outcome : Outcome) (tally : TallyView) (share : Share) → slice_get state.shares n ≡ Some share → HoldsOnce is_busy share user →
+      busy_count (after_act plan state thread t (Return n user item outcome tally)) + 1 ≡ busy_count state
+  return_busy user item outcome tally share at busy =
+      let changed = busy_share state n (put_condition user Idle) share at in
+      let one = busy_put_idle user share busy in
+      omega arith
+
+  pub release_busy : (user : ℕ) (share : Share) → slice_get state.shares n ≡ Some share → HoldsOnce is_idle share user →
+      busy_count (after_act plan state thread t (Release n user)) ≡ busy_count state
+  release_busy user share at idle =
+      let changed = busy_share state n (let_go user) share at in
+      let same = ap length (busy_let_go user share idle) in
+      omega arith
+
+  pub stop_busy : busy_count (after_act plan state thread t (Stop n)) ≡ busy_count state
+  stop_busy = busy_same state n (λ share. record share { level = Halted }) (λ share. refl)
+
+  pub close_busy : busy_count (after_act plan state thread t (Close n)) ≡ busy_count state
+  close_busy = busy_same state n (λ share. record share { closed = true }) (λ share. refl)

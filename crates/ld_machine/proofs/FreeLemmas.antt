@@ -1,18 +1,22 @@
 -- Who is held and who is free behind an act.
-use Rattle.std.proofs.Common.{Contains, ◌≡◌, ◌≢◌, ◌↔◌, ◌⊎◌, inl, inr, ◌≤◌, ◌<◌, ◌+◌, ◌==◌, ◌∙◌, ℕ, zero, suc, Bool, true, false, not, cond, ◌||◌, nat_lt, List, [], ◌∷◌, ◌++◌, Option, None, Some, map, filter, arith, refl, sym, ap, subst, slice_get}
+use Rattle.std.proofs.Common.{Contains, ◌≡◌, ◌≢◌, ◌↔◌, ◌⊎◌, inl, inr, ◌≤◌, ◌<◌, ◌+◌, ◌==◌, ◌∙◌, ℕ, zero, suc, Bool, true, false, not, cond, ◌||◌, nat_lt, List, [], ◌∷◌, ◌++◌, length, Option, None, Some, map, filter, arith, refl, sym, ap, subst, slice_get}
 use Rattle.std.specs.Option.{option_map_or}
 use Rattle.std.specs.List.{list_any, range_with_len}
 use Rattle.std.proofs.lemmas.Bool.{true≢false}
 use Rattle.std.proofs.lemmas.Grind.{common_steps}
 use Rattle.std.proofs.lemmas.List.Elements.{filter-append}
+use Rattle.ld_base.specs.Tally.{TallyView}
+use Rattle.ld_base.specs.declared.act.Act.TheVariants.{Take, Grow, Start, Return, Release, Stop, Close}
+use Rattle.ld_base.specs.declared.act.Outcome.{Outcome}
 use Rattle.ld_base.specs.declared.command.Command.{Command}
 use Rattle.ld_base.specs.declared.command.Command.TheVariants as commands
 use Rattle.ld_machine.specs.Plan.{Part, Plan}
-use Rattle.ld_machine.specs.State.{StartsNothing, Condition, Idle, Busy, HeldUser, Share, State, is_held, free_users, times_among, times_held}
+use Rattle.ld_machine.specs.State.{StartsNothing, Halted, Condition, Idle, Busy, HeldUser, Share, State, is_held, free_users, times_among, times_held}
 use Rattle.ld_machine.specs.Commands.{stop_commanded_share, after_command}
-use Rattle.ld_machine.specs.Effect.{with_user, if_user, hold, put_condition, let_go, end_item, change_at, change_share, end_item_of}
+use Rattle.ld_machine.specs.Effect.{after_act, with_user, if_user, hold, put_condition, let_go, end_item, change_at, change_share, end_item_of}
 use Rattle.ld_machine.specs.Together.{holds}
 use Rattle.ld_machine.proofs.ListLemmas.{In, here, there, nothing_in, In-filter, filter-In, In-from_any, any-from_In, Contains-from_In, number_itself, both_true}
+use Rattle.ld_machine.proofs.HolderLemmas.{or_parts}
 use Rattle.ld_machine.proofs.TurnLemmas.{among_there}
 use Rattle.ld_machine.proofs.FirstOfAllLemmas.{In-of, false_unless}
 use Rattle.ld_machine.proofs.BusyLemmas.{same_number, held_end_item, held_stop}
@@ -234,3 +238,115 @@ range_last a zero = let e : a ≡ a + 0 = omega arith in ap (λ x. x ∷ []) e
 range_last a (suc n) =
     let e : (a + 1) + n ≡ a + suc n = omega arith in
     ap (λ xs. a ∷ xs) (range_last (a + 1) n ∙ ap (λ x. range_with_len (a + 1) n ++ x ∷ []) e)
+
+-- ---- acts
+
+append_nothing : {A : Type 0} (xs : List A) → xs ++ [] ≡ xs
+append_nothing [] = refl
+append_nothing (x ∷ xs) = rw (append_nothing xs) refl
+
+apart_from : (a b : ℕ) → (a == b) ≡ false → b ≢ a
+apart_from a b e same = grind (arith, common_steps)
+
+module _ (plan : Plan) (state : State) (thread t n : ℕ) where
+  pub take_free : (user slot other : ℕ) (share : Share) → slice_get state.shares n ≡ Some share →
+      Contains (free_users (after_act plan state thread t (Take n user slot))) other ↔ (Contains (free_users state) other × (other ≢ user))
+  take_free user slot other share at =
+      let after = change_share state n (hold user slot) in
+      let held = held_hold state n user slot other share at in
+      (λ h.
+        let told = free_tells_all after other h in
+        let none = or_parts (user == other) (is_held state other) (sym held ∙ told.2) in
+        (free_is state other (told.0, told.1, none.1), apart_from user other none.0),
+       λ h.
+        let told = free_tells_all state other h.0 in
+        let another : (user == other) ≡ false = apart_tests user other (λ e. h.1 (sym e)) in
+        let none : is_held after other ≡ false = held ∙ rw another told.2 in
+        free_is after other (told.0, told.1, none))
+
+  pub grow_free : (user slot : ℕ) (share : Share) → slice_get state.shares n ≡ Some share → user ≡ state.made + 1 →
+      free_users (after_act plan state thread t (Grow n user slot)) ≡ free_users state
+  grow_free user slot share at next =
+      let after = change_share (record state { made = state.made + 1 }) n (hold user slot) in
+      let held : (other : ℕ) → is_held after other ≡ ((user == other) || is_held state other) = λ other. held_hold (record state { made = state.made + 1 }) n user slot other share at in
+      let one_more : state.made + 1 ≡ suc state.made = omega arith in
+      let itself : user ≡ 1 + state.made = omega arith in
+      let is_it : (user == (1 + state.made)) ≡ true = subst (λ u. (user == u) ≡ true) itself (number_itself user) in
+      let last : is_held after (1 + state.made) ≡ true = held (1 + state.made) ∙ rw is_it refl in
+      let none_last : filter (λ u. not (is_held after u)) ((1 + state.made) ∷ []) ≡ [] = rw last refl in
+      let before : filter (λ u. not (is_held after u)) (range_with_len 1 state.made) ≡ free_users state =
+      filter_alike (λ u. not (is_held after u)) (λ u. not (is_held state u)) (range_with_len 1 state.made)
+      (λ u at_u.
+        let within = range_in u 1 state.made at_u in
+        let below : u < 1 + state.made = within.1 in
+        let another : (user == u) ≡ false = apart_tests user u (λ e. absurd (omega arith)) in
+        ap not (held u ∙ rw another refl)) in
+      ap (λ k. filter (λ u. not (is_held after u)) (range_with_len 1 k)) one_more
+      ∙ ap (λ us. filter (λ u. not (is_held after u)) us) (range_last 1 state.made)
+      ∙ filter-append (λ u. not (is_held after u)) (range_with_len 1 state.made) ((1 + state.made) ∷ [])
+      ∙ ap (λ us. filter (λ u. not (is_held after u)) (range_with_len 1 state.made) ++ us) none_last
+      ∙ append_nothing (filter (λ u. not (is_held after u)) (range_with_len 1 state.made))
+      ∙ before
+
+  pub release_free : (user other : ℕ) (share : Share) → slice_get state.shares n ≡ Some share → holds user share ≡ true → times_held user state.shares ≤ 1 →
+      1 ≤ user → user ≤ state.made →
+      Contains (free_users (after_act plan state thread t (Release n user))) other ↔ (Contains (free_users state) other ⊎ (other ≡ user))
+  release_free user other share at held once from made =
+      let after = change_share state n (let_go user) in
+      let itself = held_let_go state n user share at held once in
+      let apart : other ≢ user → is_held after other ≡ is_held state other = λ e. held_same state n (let_go user) other (λ s. holds_let_go user other s e) in
+      let P : Bool → Type 0 = λ b. (other == user) ≡ b → Contains (free_users after) other ↔ (Contains (free_users state) other ⊎ (other ≡ user)) in
+      let told : P (other == user) = elim (other == user) as P [
+        | true ↦ λ e.
+            let same : other ≡ user = same_number other user e in
+            let free : Contains (free_users after) user = free_is after user (from, made, itself) in
+            (λ h. inr same, λ h. subst (λ u. Contains (free_users after) u) (sym same) free)
+        | false ↦ λ e.
+            let another : other ≢ user = λ it. apart_from other user e (sym it) in
+            (λ h.
+              let facts = free_tells_all after other h in
+              inl (free_is state other (facts.0, facts.1, sym (apart another) ∙ facts.2)),
+             λ h. elim h [
+               | inl free ↦ let facts = free_tells_all state other free in free_is after other (facts.0, facts.1, apart another ∙ facts.2)
+               | inr it ↦ absurd (another it)
+             ])
+      ] in told refl
+
+  pub start_free : (user item until : ℕ) → free_users (after_act plan state thread t (Start n user item until)) ≡ free_users state
+  start_free user item until =
+      let changed = change_share state n (put_condition user (Busy thread item until)) in
+      free_same (end_item_of plan n item changed) state (made_end n item changed)
+      (λ other. held_end plan n item other changed ∙ held_same state n (put_condition user (Busy thread item until)) other (holds_put user other (Busy thread item until)))
+    where
+      made_end : (n item : ℕ) (state : State) → (end_item_of plan n item state).made ≡ state.made
+      made_end n item state =
+          let P : Option Part → Type 0 = λ o. (option_map_or (λ part. change_share state n (end_item part item)) o state).made ≡ state.made in
+          elim (slice_get plan.parts n) as P [ None ↦ refl | Some part ↦ refl ]
+
+  pub end_free : (item : ℕ) → free_users (end_item_of plan n item state) ≡ free_users state
+  end_free item = free_same (end_item_of plan n item state) state made_end (λ other. held_end plan n item other state)
+    where
+      made_end : (end_item_of plan n item state).made ≡ state.made
+      made_end =
+          let P : Option Part → Type 0 = λ o. (option_map_or (λ part. change_share state n (end_item part item)) o state).made ≡ state.made in
+          elim (slice_get plan.parts n) as P [ None ↦ refl | Some part ↦ refl ]
+
+  pub return_free : (user item : ℕ) (outcome : Outcome) (tally : TallyView) → free_users (after_act plan state thread t (Return n user item outcome tally)) ≡ free_users state
+  return_free user item outcome tally =
+      free_same (after_act plan state thread t (Return n user item outcome tally)) state refl
+      (λ other. held_same (record state { samples = state.samples + length tally.samples }) n (put_condition user Idle) other (holds_put user other Idle))
+
+  pub stop_free : free_users (after_act plan state thread t (Stop n)) ≡ free_users state
+  stop_free = free_same (after_act plan state thread t (Stop n)) state refl (λ other. held_same state n (λ share. record share { level = Halted }) other (λ share. refl))
+
+  pub close_free : free_users (after_act plan state thread t (Close n)) ≡ free_users state
+  close_free = free_same (after_act plan state thread t (Close n)) state refl (λ other. held_same state n (λ share. record share { closed = true }) other (λ share. refl))
+
+made_command : (state : State) (command : Command) (t : ℕ) → (after_command state command t).made ≡ state.made
+made_command state commands.Stop t = refl
+made_command state (commands.Pause b) t = refl
+made_command state (commands.Vus n) t = refl
+made_command state (commands.VusMax n) t = refl
+
+pub command_free : (state : State) (command : Command) (t : ℕ) → free_users (after_command state command t) ≡ free_users state
+command_free state command t = free_same (after_command state command t) state (made_command state command t) (held_command state command t)

@@ -1,6 +1,6 @@
 // The laws by which many scenarios are put together: the first act of all, the next candidate, and
 // who is busy and who is free.
-ghost use Rattle.std.specs.Prelude.{◌≡◌, ◌≢◌, ◌==◌, ◌&&◌, ◌||◌, ◌++◌, ◌∷◌, ◌+◌, ◌↔◌, ◌<◌, ◌≤◌, ℕ, Bool, true, false, not, List, [], Contains, length, Option, Some, None, nat_lt, option_to_list, if◌then◌else◌, slice_get};
+ghost use Rattle.std.specs.Prelude.{◌≡◌, ◌≢◌, ◌==◌, ◌&&◌, ◌||◌, ◌++◌, ◌∷◌, ◌+◌, ◌↔◌, ◌⊎◌, ◌<◌, ◌≤◌, ℕ, Bool, true, false, not, List, [], Contains, length, Option, Some, None, nat_lt, option_to_list, if◌then◌else◌, slice_get};
 ghost use Rattle.ld_base.specs.Tally.{TallyView};
 ghost use Rattle.ld_base.specs.declared.act.Act.TheVariants as acts;
 ghost use Rattle.ld_base.specs.declared.act.Outcome.{Outcome};
@@ -241,4 +241,28 @@ pub fn held_under_change()
 pub fn free_where()
     ensures free { (state : State) (user : ℕ) → Contains (free_users state) user ↔ ((1 ≤ user) × (user ≤ state.made) × (is_held state user ≡ false)) }
     ensures same { (a b : State) → a.made ≡ b.made → ((user : ℕ) → is_held a user ≡ is_held b user) → free_users a ≡ free_users b }
+{}
+
+/// Who is free behind each act: behind a Take all but the user, behind a Release the user too, and
+/// behind all others the same, if the user that is grown has the next number.
+pub fn free_behind_acts()
+    ensures take { (plan : Plan) (state : State) (thread t n user slot other : ℕ) (share : Share) → slice_get state.shares n ≡ Some share →
+        Contains (free_users (after_act plan state thread t (acts.Take n user slot))) other ↔ (Contains (free_users state) other × (other ≢ user)) }
+    ensures grow { (plan : Plan) (state : State) (thread t n user slot : ℕ) (share : Share) → slice_get state.shares n ≡ Some share →
+        user ≡ state.made + 1 → free_users (after_act plan state thread t (acts.Grow n user slot)) ≡ free_users state }
+    ensures release { (plan : Plan) (state : State) (thread t n user other : ℕ) (share : Share) → slice_get state.shares n ≡ Some share →
+        holds user share ≡ true → times_held user state.shares ≤ 1 → 1 ≤ user → user ≤ state.made →
+        Contains (free_users (after_act plan state thread t (acts.Release n user))) other ↔ (Contains (free_users state) other ⊎ (other ≡ user)) }
+    ensures start { (plan : Plan) (state : State) (thread t n user item until : ℕ) →
+        free_users (after_act plan state thread t (acts.Start n user item until)) ≡ free_users state }
+    ensures dropped { (plan : Plan) (state : State) (thread t n item : ℕ) →
+        free_users (after_act plan state thread t (acts.Drop n item)) ≡ free_users state }
+    ensures late { (plan : Plan) (state : State) (thread t n item : ℕ) →
+        free_users (after_act plan state thread t (acts.Late n item)) ≡ free_users state }
+    ensures returned { (plan : Plan) (state : State) (thread t n user item : ℕ) (outcome : Outcome) (tally : TallyView) →
+        free_users (after_act plan state thread t (acts.Return n user item outcome tally)) ≡ free_users state }
+    ensures stop { (plan : Plan) (state : State) (thread t n : ℕ) → free_users (after_act plan state thread t (acts.Stop n)) ≡ free_users state }
+    ensures close { (plan : Plan) (state : State) (thread t n : ℕ) → free_users (after_act plan state thread t (acts.Close n)) ≡ free_users state }
+    ensures control { (plan : Plan) (state : State) (thread t : ℕ) (command : Command) →
+        free_users (after_act plan state thread t (acts.Control command)) ≡ free_users state }
 {}
