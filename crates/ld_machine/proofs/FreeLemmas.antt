@@ -131,7 +131,7 @@ holds_times user share h =
     let found = In-from_any (λ (g : HeldUser). g.user == user) share.held h in
     among_there user found.0 found.1 found.2
 
-any_times : (user : ℕ) (shares : List Share) → list_any (holds user) shares ≡ true → 1 ≤ times_held user shares
+pub any_times : (user : ℕ) (shares : List Share) → list_any (holds user) shares ≡ true → 1 ≤ times_held user shares
 any_times user [] h = absurd (cc)
 any_times user (x ∷ rest) h =
     let P : Bool → Type 0 = λ b. holds user x ≡ b → (b || list_any (holds user) rest) ≡ true → 1 ≤ times_among user x.held + times_held user rest in
@@ -189,7 +189,7 @@ held_end plan n item user state =
 
 -- ---- free users
 
-range_in : (x a n : ℕ) → In x (range_with_len a n) → (a ≤ x) × (x < a + n)
+pub range_in : (x a n : ℕ) → In x (range_with_len a n) → (a ≤ x) × (x < a + n)
 range_in x a zero h = absurd (nothing_in h)
 range_in x a (suc n) here = (omega arith, omega arith)
 range_in x a (suc n) (there more) =

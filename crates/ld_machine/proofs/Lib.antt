@@ -19,3 +19,4 @@ pub mod FirstOfEachLemmas
 pub mod CandidateLemmas
 pub mod BusyLemmas
 pub mod FreeLemmas
+pub mod WellHeldLemmas

@@ -2,9 +2,9 @@
 use Rattle.std.specs.Prelude.{◌≡◌, ◌<◌, ◌≤◌, ◌++◌, ◌==◌, ℕ, Bool, true, false, nat_lt, List, [], filter, filter_map, flat_map, min, Option, None, Some, Contains, slice_get}
 use Rattle.std.specs.List.{list_any}
 use Rattle.ld_machine.specs.Plan.{Plan}
-use Rattle.ld_machine.specs.State.{HeldUser, Share, State, times_among}
+use Rattle.ld_machine.specs.State.{HeldUser, Share, State, is_held, times_among, times_held}
 use Rattle.ld_machine.specs.Scenario.{Scenario}
-use Rattle.ld_machine.specs.Moves.{Move, users_of, moves_of, scenarios}
+use Rattle.ld_machine.specs.Moves.{StartOn, GrowAndStart, TakeAndStart, Move, ReleaseUser, TakeUser, AnswerArrival, StartIteration, users_of, moves_of, scenarios}
 use Rattle.ld_machine.specs.Order.{is_before, place_of, first_among}
 use Rattle.ld_machine.specs.Wait.{busy_until, scenario_moments, untils, least_of}
 
@@ -78,3 +78,26 @@ HoldsOnce passes share user =
 -- the share holds the user
 abbrev pub holds : ℕ → Share → Bool
 holds user share = list_any (λ (h : HeldUser). h.user == user) share.held
+
+-- no user is held twice, and whoever is held was made, numbered from 1
+abbrev pub WellHeld : State → Type 0
+WellHeld state =
+    (user : ℕ) → (times_held user state.shares ≤ 1) × (is_held state user ≡ true → (1 ≤ user) × (user ≤ state.made))
+
+-- the idle user that an act is on: one that is released, or that starts
+abbrev pub idle_user_of : Move → Option ℕ
+idle_user_of (ReleaseUser _ user) = Some user
+idle_user_of (StartIteration _ user _ _) = Some user
+idle_user_of (AnswerArrival _ _ _ _ (StartOn user)) = Some user
+idle_user_of _ = None
+
+-- the free user that an act takes
+abbrev pub free_user_of : Move → Option ℕ
+free_user_of (TakeUser _ user _) = Some user
+free_user_of (AnswerArrival _ _ _ _ (TakeAndStart user _)) = Some user
+free_user_of _ = None
+
+-- the user that an act makes
+abbrev pub grown_user_of : Move → Option ℕ
+grown_user_of (AnswerArrival _ _ _ _ (GrowAndStart user _)) = Some user
+grown_user_of _ = None

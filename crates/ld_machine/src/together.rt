@@ -5,17 +5,20 @@ ghost use Rattle.ld_base.specs.Tally.{TallyView};
 ghost use Rattle.ld_base.specs.declared.act.Act.TheVariants as acts;
 ghost use Rattle.ld_base.specs.declared.act.Outcome.{Outcome};
 ghost use Rattle.ld_base.specs.declared.command.Command.{Command};
+ghost use Rattle.ld_base.specs.declared.ask.Ask.{Ask};
 ghost use Rattle.ld_base.specs.declared.ask.Ask.TheVariants as asks;
+ghost use Rattle.ld_base.specs.declared.entry.Entry.{Entry};
 ghost use Rattle.ld_base.specs.declared.reply.Reply.TheVariants.{Wait, Over};
 ghost use Rattle.ld_machine.specs.Plan.{Part, Plan};
-ghost use Rattle.ld_machine.specs.State.{Level, Condition, Idle, Busy, HeldUser, Share, State, is_idle, is_busy, busy_users, busy_count, is_held, free_users, times_among, times_held, all_closed};
+ghost use Rattle.ld_machine.specs.State.{Level, opening, Condition, Idle, Busy, HeldUser, Share, State, is_idle, is_busy, busy_users, busy_count, is_held, free_users, times_among, times_held, all_closed};
 ghost use Rattle.ld_machine.specs.Scenario.{Scenario};
 ghost use Rattle.ld_machine.specs.Moves.{Move, users_of, moves_of, scenarios};
 ghost use Rattle.ld_machine.specs.Order.{is_before, place_of, first_among, first_moves};
 ghost use Rattle.ld_machine.specs.Wait.{busy_until, scenario_moments, least_of, next_candidate, wait_moment};
-ghost use Rattle.ld_machine.specs.Effect.{hold, put_condition, let_go, end_item, change_share, after_act};
-ghost use Rattle.ld_machine.specs.Step.{answered, move_result, results};
-ghost use Rattle.ld_machine.specs.Together.{IsActOf, NoneBefore, NoneActs, IsFirstOf, IsFirstBelow, NoneActsBelow, lesser, least_above, least_moment, least_with_untils, least_until, least_until_in, IsLeast, IsLeastAbove, HoldsOnce, holds};
+ghost use Rattle.ld_machine.specs.Effect.{hold, put_condition, let_go, end_item, change_share, after_act, state_after};
+ghost use Rattle.ld_machine.specs.History.{IsLegal};
+ghost use Rattle.ld_machine.specs.Step.{IsStep, Result, answered, move_result, results};
+ghost use Rattle.ld_machine.specs.Together.{IsActOf, NoneBefore, NoneActs, IsFirstOf, IsFirstBelow, NoneActsBelow, lesser, least_above, least_moment, least_with_untils, least_until, least_until_in, IsLeast, IsLeastAbove, HoldsOnce, holds, WellHeld};
 
 /// No place is before itself, and what is before a place is before all that the place is before. So
 /// of two places one at most is before the other. Of the places of acts, where a first isn't before
@@ -265,4 +268,13 @@ pub fn free_behind_acts()
     ensures close { (plan : Plan) (state : State) (thread t n : ℕ) → free_users (after_act plan state thread t (acts.Close n)) ≡ free_users state }
     ensures control { (plan : Plan) (state : State) (thread t : ℕ) (command : Command) →
         free_users (after_act plan state thread t (acts.Control command)) ≡ free_users state }
+{}
+
+/// At the opening, behind each step from a state that is so, and behind each legal history no user is
+/// held twice, and whoever is held was made.
+pub fn well_held()
+    ensures opening { (plan : Plan) → WellHeld (opening plan) }
+    ensures step { (plan : Plan) (state : State) (thread : ℕ) (ask : Ask) (t : ℕ) (result_of : Result) →
+        IsStep plan state thread ask t result_of → WellHeld state → WellHeld result_of.state }
+    ensures legal { (plan : Plan) (history : List Entry) → IsLegal plan history → WellHeld (state_after plan history) }
 {}
