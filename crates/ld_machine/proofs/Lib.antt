@@ -20,3 +20,4 @@ pub mod CandidateLemmas
 pub mod BusyLemmas
 pub mod FreeLemmas
 pub mod WellHeldLemmas
+pub mod BusyStepLemmas

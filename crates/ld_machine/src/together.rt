@@ -1,6 +1,7 @@
 // The laws by which many scenarios are put together: the first act of all, the next candidate, and
 // who is busy and who is free.
 ghost use Rattle.std.specs.Prelude.{◌≡◌, ◌≢◌, ◌==◌, ◌&&◌, ◌||◌, ◌++◌, ◌∷◌, ◌+◌, ◌↔◌, ◌⊎◌, ◌<◌, ◌≤◌, ℕ, Bool, true, false, not, List, [], Contains, length, Option, Some, None, nat_lt, option_to_list, if◌then◌else◌, slice_get};
+ghost use Rattle.ld_base.specs.Stint.{StintView};
 ghost use Rattle.ld_base.specs.Tally.{TallyView};
 ghost use Rattle.ld_base.specs.declared.act.Act.TheVariants as acts;
 ghost use Rattle.ld_base.specs.declared.act.Outcome.{Outcome};
@@ -8,17 +9,19 @@ ghost use Rattle.ld_base.specs.declared.command.Command.{Command};
 ghost use Rattle.ld_base.specs.declared.ask.Ask.{Ask};
 ghost use Rattle.ld_base.specs.declared.ask.Ask.TheVariants as asks;
 ghost use Rattle.ld_base.specs.declared.entry.Entry.{Entry};
+ghost use Rattle.ld_base.specs.declared.reply.Reply.{Reply};
 ghost use Rattle.ld_base.specs.declared.reply.Reply.TheVariants.{Wait, Over};
 ghost use Rattle.ld_machine.specs.Plan.{Part, Plan};
 ghost use Rattle.ld_machine.specs.State.{Level, opening, Condition, Idle, Busy, HeldUser, Share, State, is_idle, is_busy, busy_users, busy_count, is_held, free_users, times_among, times_held, all_closed};
 ghost use Rattle.ld_machine.specs.Scenario.{Scenario};
 ghost use Rattle.ld_machine.specs.Moves.{Move, users_of, moves_of, scenarios};
 ghost use Rattle.ld_machine.specs.Order.{is_before, place_of, first_among, first_moves};
+ghost use Rattle.ld_machine.specs.Acts.{acts_of, made_busy, scenario_of};
 ghost use Rattle.ld_machine.specs.Wait.{busy_until, scenario_moments, least_of, next_candidate, wait_moment};
 ghost use Rattle.ld_machine.specs.Effect.{hold, put_condition, let_go, end_item, change_share, after_act, state_after};
 ghost use Rattle.ld_machine.specs.History.{IsLegal};
-ghost use Rattle.ld_machine.specs.Step.{IsStep, Result, answered, move_result, results};
-ghost use Rattle.ld_machine.specs.Together.{IsActOf, NoneBefore, NoneActs, IsFirstOf, IsFirstBelow, NoneActsBelow, lesser, least_above, least_moment, least_with_untils, least_until, least_until_in, IsLeast, IsLeastAbove, HoldsOnce, holds, WellHeld};
+ghost use Rattle.ld_machine.specs.Step.{IsStep, Result, answered, is_out, move_result, performed, results, return_of};
+ghost use Rattle.ld_machine.specs.Together.{IsActOf, NoneBefore, NoneActs, IsFirstOf, IsFirstBelow, NoneActsBelow, lesser, least_above, least_moment, least_with_untils, least_until, least_until_in, IsLeast, IsLeastAbove, HoldsOnce, holds, WellHeld, idle_user_of, free_user_of, grown_user_of};
 
 /// No place is before itself, and what is before a place is before all that the place is before. So
 /// of two places one at most is before the other. Of the places of acts, where a first isn't before
@@ -277,4 +280,30 @@ pub fn well_held()
     ensures step { (plan : Plan) (state : State) (thread : ℕ) (ask : Ask) (t : ℕ) (result_of : Result) →
         IsStep plan state thread ask t result_of → WellHeld state → WellHeld result_of.state }
     ensures legal { (plan : Plan) (history : List Entry) → IsLegal plan history → WellHeld (state_after plan history) }
+{}
+
+/// An act of a scenario names its number. The user that it is on the scenario's share holds once,
+/// idle; or it is free; or it has the next number. So the laws of who is busy and who is free apply.
+/// The user of a stint that is out is held once, busy.
+pub fn users_of_acts()
+    ensures number { (plan : Plan) (state : State) (t n : ℕ) (m : Move) → IsActOf plan state t n m → scenario_of m ≡ n }
+    ensures share { (plan : Plan) (state : State) (t n : ℕ) (m : Move) (act : IsActOf plan state t n m) → slice_get state.shares n ≡ Some act.0.share }
+    ensures idle { (plan : Plan) (state : State) (t n : ℕ) (m : Move) (act : IsActOf plan state t n m) (user : ℕ) → WellHeld state →
+        idle_user_of m ≡ Some user → HoldsOnce is_idle act.0.share user }
+    ensures free { (plan : Plan) (state : State) (t n : ℕ) (m : Move) (user : ℕ) → IsActOf plan state t n m →
+        free_user_of m ≡ Some user → Contains (free_users state) user }
+    ensures grown { (plan : Plan) (state : State) (t n : ℕ) (m : Move) (user : ℕ) → IsActOf plan state t n m →
+        grown_user_of m ≡ Some user → user ≡ state.made + 1 }
+    ensures out { (state : State) (thread : ℕ) (stint : StintView) → WellHeld state → is_out state thread stint ≡ true →
+        (share : Share) × (slice_get state.shares stint.scenario ≡ Some share) × HoldsOnce is_busy share stint.user }
+{}
+
+/// Behind an act of a scenario as many users more are busy as it makes busy, and behind a Return of a
+/// stint that is out one user less.
+pub fn busy_behind_steps()
+    ensures act { (plan : Plan) (state : State) (thread t : ℕ) (reply : Reply) (n : ℕ) (m : Move) → WellHeld state → IsActOf plan state t n m →
+        busy_count (performed plan state thread t reply (acts_of m)).state ≡ busy_count state + made_busy m }
+    ensures returned { (plan : Plan) (state : State) (thread t : ℕ) (reply : Reply) (stint : StintView) (outcome : Outcome) (tally : TallyView) →
+        WellHeld state → is_out state thread stint ≡ true →
+        busy_count (performed plan state thread t reply (return_of stint outcome tally ∷ [])).state + 1 ≡ busy_count state }
 {}
