@@ -1,6 +1,6 @@
 // The laws by which many scenarios are put together: the first act of all, the next candidate, and
 // who is busy and who is free.
-ghost use Rattle.std.specs.Prelude.{◌≡◌, ◌≢◌, ◌==◌, ◌&&◌, ◌||◌, ◌++◌, ◌∷◌, ◌+◌, ◌↔◌, ◌⊎◌, ◌<◌, ◌≤◌, ℕ, Bool, true, false, not, List, [], Contains, length, Option, Some, None, nat_lt, option_to_list, if◌then◌else◌, slice_get};
+ghost use Rattle.std.specs.Prelude.{◌≡◌, ◌≢◌, ◌==◌, ◌&&◌, ◌||◌, ◌++◌, ◌∷◌, ◌+◌, ◌↔◌, ◌⊎◌, ◌<◌, ◌≤◌, ℕ, Bool, true, false, not, List, [], Contains, length, Option, Some, None, take, nat_lt, option_to_list, if◌then◌else◌, slice_get};
 ghost use Rattle.ld_base.specs.Stint.{StintView};
 ghost use Rattle.ld_base.specs.Tally.{TallyView};
 ghost use Rattle.ld_base.specs.declared.act.Act.TheVariants as acts;
@@ -14,11 +14,12 @@ ghost use Rattle.ld_base.specs.declared.reply.Reply.TheVariants.{Wait, Over};
 ghost use Rattle.ld_machine.specs.Plan.{Part, Plan};
 ghost use Rattle.ld_machine.specs.State.{Level, opening, Condition, Idle, Busy, HeldUser, Share, State, is_idle, is_busy, busy_users, busy_count, is_held, free_users, times_among, times_held, all_closed};
 ghost use Rattle.ld_machine.specs.Scenario.{Scenario};
-ghost use Rattle.ld_machine.specs.Moves.{Move, users_of, moves_of, scenarios};
+ghost use Rattle.ld_machine.specs.Moves.{Move, TakeUser, users_of, moves_of, scenarios};
 ghost use Rattle.ld_machine.specs.Order.{is_before, place_of, first_among, first_moves};
 ghost use Rattle.ld_machine.specs.Acts.{acts_of, made_busy, scenario_of};
 ghost use Rattle.ld_machine.specs.Wait.{busy_until, scenario_moments, least_of, next_candidate, wait_moment};
 ghost use Rattle.ld_machine.specs.Effect.{hold, put_condition, let_go, end_item, change_share, after_act, state_after};
+ghost use Rattle.ld_machine.specs.FurtherExamples.{two_plan, two_done};
 ghost use Rattle.ld_machine.specs.History.{IsLegal};
 ghost use Rattle.ld_machine.specs.Step.{IsStep, Result, answered, is_out, move_result, performed, results, return_of};
 ghost use Rattle.ld_machine.specs.Together.{IsActOf, NoneBefore, NoneActs, IsFirstOf, IsFirstBelow, NoneActsBelow, lesser, least_above, least_moment, least_with_untils, least_until, least_until_in, IsLeast, IsLeastAbove, HoldsOnce, holds, WellHeld, idle_user_of, free_user_of, grown_user_of};
@@ -306,4 +307,19 @@ pub fn busy_behind_steps()
     ensures returned { (plan : Plan) (state : State) (thread t : ℕ) (reply : Reply) (stint : StintView) (outcome : Outcome) (tally : TallyView) →
         WellHeld state → is_out state thread stint ≡ true →
         busy_count (performed plan state thread t reply (return_of stint outcome tally ∷ [])).state + 1 ≡ busy_count state }
+{}
+
+/// Two scenarios of two users each: at the opening the first takes a user for its slot 0; behind its
+/// two Starts nothing is enabled, the end of the first is the next candidate, both users are busy and
+/// none is free; behind a Return one of them is held once, idle.
+pub fn two_together()
+    ensures opened { first_moves two_plan (opening two_plan) 0 ≡ TakeUser 0 1 0 ∷ TakeUser 0 2 0 ∷ [] }
+    ensures nothing { first_moves two_plan (state_after two_plan (take 4 two_done)) 1 ≡ [] }
+    ensures moment { least_moment 0 (scenarios two_plan (state_after two_plan (take 4 two_done))) ≡ Some 10000000000 }
+    ensures until { least_until_in 0 (state_after two_plan (take 4 two_done)).shares ≡ Some 15000000000 }
+    ensures next { next_candidate two_plan (state_after two_plan (take 4 two_done)) 0 ≡ Some 10000000000 }
+    ensures busy { busy_count (state_after two_plan (take 4 two_done)) ≡ 2 }
+    ensures free_first { free_users (opening two_plan) ≡ 1 ∷ 2 ∷ [] }
+    ensures free_then { free_users (state_after two_plan (take 4 two_done)) ≡ [] }
+    ensures busy_left { busy_count (state_after two_plan (take 5 two_done)) ≡ 1 }
 {}
