@@ -21,3 +21,4 @@ pub mod BusyLemmas
 pub mod FreeLemmas
 pub mod WellHeldLemmas
 pub mod BusyStepLemmas
+pub mod ScenarioListLemmas

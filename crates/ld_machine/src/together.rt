@@ -1,6 +1,6 @@
 // The laws by which many scenarios are put together: the first act of all, the next candidate, and
 // who is busy and who is free.
-ghost use Rattle.std.specs.Prelude.{◌≡◌, ◌≢◌, ◌==◌, ◌&&◌, ◌||◌, ◌++◌, ◌∷◌, ◌+◌, ◌↔◌, ◌⊎◌, ◌<◌, ◌≤◌, ℕ, Bool, true, false, not, List, [], Contains, length, Option, Some, None, take, nat_lt, option_to_list, if◌then◌else◌, slice_get};
+ghost use Rattle.std.specs.Prelude.{◌≡◌, ◌≢◌, ◌==◌, ◌&&◌, ◌||◌, ◌++◌, ◌∷◌, ◌+◌, ◌↔◌, ◌⊎◌, ◌<◌, ◌≤◌, ℕ, Bool, true, false, not, List, [], Contains, length, Option, Some, None, set, take, nat_lt, option_to_list, if◌then◌else◌, slice_get};
 ghost use Rattle.ld_base.specs.Stint.{StintView};
 ghost use Rattle.ld_base.specs.Tally.{TallyView};
 ghost use Rattle.ld_base.specs.declared.act.Act.TheVariants as acts;
@@ -18,7 +18,7 @@ ghost use Rattle.ld_machine.specs.Moves.{Move, TakeUser, users_of, moves_of, sce
 ghost use Rattle.ld_machine.specs.Order.{is_before, place_of, first_among, first_moves};
 ghost use Rattle.ld_machine.specs.Acts.{acts_of, made_busy, scenario_of};
 ghost use Rattle.ld_machine.specs.Wait.{busy_until, scenario_moments, least_of, next_candidate, wait_moment};
-ghost use Rattle.ld_machine.specs.Effect.{hold, put_condition, let_go, end_item, change_share, after_act, state_after};
+ghost use Rattle.ld_machine.specs.Effect.{hold, put_condition, let_go, end_item, change_at, change_share, after_act, after_entries, state_after};
 ghost use Rattle.ld_machine.specs.FurtherExamples.{two_plan, two_done};
 ghost use Rattle.ld_machine.specs.History.{IsLegal};
 ghost use Rattle.ld_machine.specs.Step.{IsStep, Result, answered, is_out, move_result, performed, results, return_of};
@@ -307,6 +307,28 @@ pub fn busy_behind_steps()
     ensures returned { (plan : Plan) (state : State) (thread t : ℕ) (reply : Reply) (stint : StintView) (outcome : Outcome) (tally : TallyView) →
         WellHeld state → is_out state thread stint ≡ true →
         busy_count (performed plan state thread t reply (return_of stint outcome tally ∷ [])).state + 1 ≡ busy_count state }
+{}
+
+/// The scenarios as they stand: number n has the part and the share of this number, and the controls;
+/// there are as many as parts, where there is a share for each.
+pub fn scenarios_stand()
+    ensures stands { (plan : Plan) (state : State) (n : ℕ) (part : Part) (share : Share) → slice_get plan.parts n ≡ Some part →
+        slice_get state.shares n ≡ Some share →
+        slice_get (scenarios plan state) n ≡ Some (record { part = part; share = share; controls = state.controls }) }
+    ensures parts { (plan : Plan) (state : State) (n : ℕ) (s : Scenario) → slice_get (scenarios plan state) n ≡ Some s →
+        (slice_get plan.parts n ≡ Some s.part) × (slice_get state.shares n ≡ Some s.share) × (s.controls ≡ state.controls) }
+    ensures count { (plan : Plan) (state : State) → length plan.parts ≡ length state.shares → length (scenarios plan state) ≡ length plan.parts }
+{}
+
+/// A change of one share sets it in its place, and so its scenario; the others stay. There is a share
+/// for each part at the opening, and no entries add or remove one.
+pub fn scenarios_under_change()
+    ensures shares { (n : ℕ) (change : Share → Share) (share : Share) (shares : List Share) → slice_get shares n ≡ Some share →
+        change_at n change shares ≡ set shares n (change share) }
+    ensures scenario { (plan : Plan) (state : State) (n : ℕ) (change : Share → Share) (s : Scenario) → slice_get (scenarios plan state) n ≡ Some s →
+        scenarios plan (change_share state n change) ≡ set (scenarios plan state) n (record s { share = change s.share }) }
+    ensures opened { (plan : Plan) → length (opening plan).shares ≡ length plan.parts }
+    ensures count { (plan : Plan) (state : State) (entries : List Entry) → length (after_entries plan state entries).shares ≡ length state.shares }
 {}
 
 /// Two scenarios of two users each: at the opening the first takes a user for its slot 0; behind its
