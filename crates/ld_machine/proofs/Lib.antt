@@ -22,3 +22,4 @@ pub mod FreeLemmas
 pub mod WellHeldLemmas
 pub mod BusyStepLemmas
 pub mod ScenarioListLemmas
+pub mod BusyRoomLemmas

@@ -29,7 +29,7 @@ stands_with controls (p ∷ parts) [] n part share at_part at_share = absurd (cc
 stands_with controls (p ∷ parts) (x ∷ shares) zero part share at_part at_share =
     let same_part : p ≡ part = cc in
     let same_share : x ≡ share = cc in
-    ap (λ q. Some (record { part = q; share = x; controls = controls })) same_part ∙ ap (λ s. Some (record { part = part; share = s; controls = controls })) same_share
+    rw (same_part, same_share) refl
 stands_with controls (p ∷ parts) (x ∷ shares) (suc n) part share at_part at_share = stands_with controls parts shares n part share at_part at_share
 
 pub controls_with : (controls : Controls) (parts : List Part) (shares : List Share) (n : ℕ) (s : Scenario) → slice_get (scenarios_with controls parts shares) n ≡ Some s → s.controls ≡ controls

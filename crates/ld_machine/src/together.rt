@@ -1,6 +1,6 @@
 // The laws by which many scenarios are put together: the first act of all, the next candidate, and
 // who is busy and who is free.
-ghost use Rattle.std.specs.Prelude.{◌≡◌, ◌≢◌, ◌==◌, ◌&&◌, ◌||◌, ◌++◌, ◌∷◌, ◌+◌, ◌↔◌, ◌⊎◌, ◌<◌, ◌≤◌, ℕ, Bool, true, false, not, List, [], Contains, length, Option, Some, None, set, take, nat_lt, option_to_list, if◌then◌else◌, slice_get};
+ghost use Rattle.std.specs.Prelude.{◌≡◌, ◌≢◌, ◌==◌, ◌&&◌, ◌||◌, ◌++◌, ◌∷◌, ◌+◌, ◌*◌, ◌↔◌, ◌⊎◌, ◌<◌, ◌≤◌, ℕ, Bool, true, false, not, List, [], Contains, length, Option, Some, None, set, take, nat_lt, option_to_list, if◌then◌else◌, slice_get};
 ghost use Rattle.ld_base.specs.Stint.{StintView};
 ghost use Rattle.ld_base.specs.Tally.{TallyView};
 ghost use Rattle.ld_base.specs.declared.act.Act.TheVariants as acts;
@@ -17,8 +17,10 @@ ghost use Rattle.ld_machine.specs.Scenario.{Scenario};
 ghost use Rattle.ld_machine.specs.Moves.{Move, TakeUser, users_of, moves_of, scenarios};
 ghost use Rattle.ld_machine.specs.Order.{is_before, place_of, first_among, first_moves};
 ghost use Rattle.ld_machine.specs.Acts.{acts_of, made_busy, scenario_of};
+ghost use Rattle.ld_machine.specs.Room.{script_room, busy_room};
+ghost use Rattle.ld_machine.specs.Commands.{after_command};
 ghost use Rattle.ld_machine.specs.Wait.{busy_until, scenario_moments, least_of, next_candidate, wait_moment};
-ghost use Rattle.ld_machine.specs.Effect.{hold, put_condition, let_go, end_item, change_at, change_share, after_act, after_entries, state_after};
+ghost use Rattle.ld_machine.specs.Effect.{hold, put_condition, let_go, end_item, change_at, change_share, end_item_of, after_act, after_entries, state_after};
 ghost use Rattle.ld_machine.specs.FurtherExamples.{two_plan, two_done};
 ghost use Rattle.ld_machine.specs.History.{IsLegal};
 ghost use Rattle.ld_machine.specs.Step.{IsStep, Result, answered, is_out, move_result, performed, results, return_of};
@@ -307,6 +309,19 @@ pub fn busy_behind_steps()
     ensures returned { (plan : Plan) (state : State) (thread t : ℕ) (reply : Reply) (stint : StintView) (outcome : Outcome) (tally : TallyView) →
         WellHeld state → is_out state thread stint ≡ true →
         busy_count (performed plan state thread t reply (return_of stint outcome tally ∷ [])).state + 1 ≡ busy_count state }
+{}
+
+/// The sample room of all iterations under way changes as the number of the changed share's busy users
+/// does, times the room of its script.
+pub fn room_under_change()
+    ensures changed { (plan : Plan) (state : State) (n : ℕ) (change : Share → Share) (share : Share) → slice_get state.shares n ≡ Some share →
+        busy_room plan (change_share state n change) + length (busy_users share) * script_room plan n
+        ≡ busy_room plan state + length (busy_users (change share)) * script_room plan n }
+    ensures same { (plan : Plan) (state : State) (n : ℕ) (change : Share → Share) → ((share : Share) → busy_users (change share) ≡ busy_users share) →
+        busy_room plan (change_share state n change) ≡ busy_room plan state }
+    ensures ended { (plan : Plan) (n item : ℕ) (state : State) → busy_room plan (end_item_of plan n item state) ≡ busy_room plan state }
+    ensures commanded { (plan : Plan) (state : State) (command : Command) (t : ℕ) →
+        busy_room plan (after_command state command t) ≡ busy_room plan state }
 {}
 
 /// The scenarios as they stand: number n has the part and the share of this number, and the controls;
