@@ -6,6 +6,7 @@ use Rattle.std.proofs.lemmas.Grind.{common_steps}
 use Rattle.std.proofs.lemmas.List.Sums.{sum_by-cons}
 use Rattle.ld_base.specs.Stint.{StintView}
 use Rattle.ld_base.specs.Tally.{TallyView}
+use Rattle.ld_base.specs.declared.act.Act.{Act}
 use Rattle.ld_base.specs.declared.act.Act.TheVariants.{Take, Grow, Start, Return, Release, Stop, Close}
 use Rattle.ld_base.specs.declared.act.Outcome.{Outcome}
 use Rattle.ld_base.specs.declared.command.Command.{Command}
@@ -20,7 +21,9 @@ use Rattle.ld_machine.specs.Room.{script_room, busy_room}
 use Rattle.ld_machine.specs.Commands.{stop_commanded_share, after_command}
 use Rattle.ld_machine.specs.Effect.{hold, put_condition, let_go, end_item, change_at, change_share, count_entry, end_item_of, after_act}
 use Rattle.ld_machine.specs.Step.{is_out, return_of, performed}
-use Rattle.ld_machine.specs.Together.{IsActOf, HoldsOnce, WellHeld}
+use Rattle.ld_machine.specs.Together.{IsActOf, HoldsOnce, WellHeld, idle_user_of}
+use Rattle.ld_machine.proofs.FreeLemmas.{among_held}
+use Rattle.ld_machine.proofs.BusyStepLemmas.{share_of_act, idle_of_act, free_of_act, grown_of_act, out_is_busy, change_stands, hold_once, free_unheld, next_unheld, share_at}
 use Rattle.ld_machine.proofs.BusyLemmas.{busy_hold, busy_let_go, busy_put_busy, busy_put_idle, held_end_item, held_stop}
 
 -- the room of the busy users of one scenario
@@ -139,3 +142,70 @@ module _ (plan : Plan) (state : State) (thread t n : ℕ) where
       let changed = room_share plan state n (let_go user) share at in
       let same = ap (λ us. length us * script_room plan n) (busy_let_go user share idle) in
       omega arith
+
+-- ---- steps
+
+pub room_behind_return : (plan : Plan) (state : State) (thread t : ℕ) (reply : Reply) (stint : StintView) (outcome : Outcome) (tally : TallyView) → WellHeld state →
+    is_out state thread stint ≡ true →
+    busy_room plan (performed plan state thread t reply (return_of stint outcome tally ∷ [])).state + script_room plan stint.scenario ≡ busy_room plan state
+room_behind_return plan state thread t reply stint outcome tally well out =
+    let busy = out_is_busy state thread stint well out in
+    return_room plan state thread t stint.scenario stint.user stint.item outcome tally busy.0 busy.1 busy.2
+
+module _ (plan : Plan) (state : State) (thread t : ℕ) (reply : Reply) (well : WellHeld state) where
+  held_room : (k user slot : ℕ) → busy_room plan (after_act plan state thread t (Take k user slot)) ≡ busy_room plan state
+  held_room k user slot = room_same plan state k (hold user slot) (busy_hold user slot)
+
+  grown_room : (k user slot : ℕ) → busy_room plan (after_act plan state thread t (Grow k user slot)) ≡ busy_room plan state
+  grown_room k user slot = room_same plan state k (hold user slot) (busy_hold user slot)
+
+  on_idle_room : (n k user item until : ℕ) (m : Move) (act : IsActOf plan state t n m) → scenario_of m ≡ k → idle_user_of m ≡ Some user →
+      busy_room plan (after_act plan state thread t (Start k user item until)) ≡ busy_room plan state + 1 * script_room plan k
+  on_idle_room n k user item until m act number at =
+      let started = start_room plan state thread t k user item until act.0.share
+      (subst (λ j. slice_get state.shares j ≡ Some act.0.share) number (share_at plan state thread t reply well n m act))
+      (idle_of_act plan state t n m act user well at) in
+      omega arith
+
+  -- an act that takes or grows a user, and starts on it
+  held_starts : (first : Act) (n k user slot item until : ℕ) (m : Move) (act : IsActOf plan state t n m) → scenario_of m ≡ k → times_held user state.shares ≡ 0 →
+      slice_get (after_act plan state thread t first).shares k ≡ Some (hold user slot act.0.share) →
+      busy_room plan (after_act plan state thread t first) ≡ busy_room plan state →
+      busy_room plan (after_act plan (count_entry (after_act plan state thread t first)) thread t (Start k user item until)) ≡ busy_room plan state + 1 * script_room plan k
+  held_starts first n k user slot item until m act number none at same =
+      let share = act.0.share in
+      let within = among_held user n share state.shares (share_of_act plan state t n m act) in
+      let started = start_room plan (count_entry (after_act plan state thread t first)) thread t k user item until (hold user slot share)
+      at (hold_once user slot share (omega arith)) in
+      omega arith
+
+  held_at : (n k user slot : ℕ) (m : Move) (act : IsActOf plan state t n m) → scenario_of m ≡ k → slice_get (change_at k (hold user slot) state.shares) k ≡ Some (hold user slot act.0.share)
+  held_at n k user slot m act number =
+      change_stands k (hold user slot) act.0.share state.shares
+      (subst (λ j. slice_get state.shares j ≡ Some act.0.share) number (share_at plan state thread t reply well n m act))
+
+  pub room_behind_act : (n : ℕ) (m : Move) → IsActOf plan state t n m →
+      busy_room plan (performed plan state thread t reply (acts_of m)).state ≡ busy_room plan state + made_busy m * script_room plan (scenario_of m)
+  room_behind_act n (StopScenario k) act = room_same plan state k (λ share. record share { level = Halted }) (λ share. refl) ∙ omega arith
+  room_behind_act n (ReleaseUser k user) act =
+      release_room plan state thread t k user act.0.share (share_at plan state thread t reply well n (ReleaseUser k user) act)
+      (idle_of_act plan state t n (ReleaseUser k user) act user well refl)
+      ∙ omega arith
+  room_behind_act n (TakeUser k user slot) act = held_room k user slot ∙ omega arith
+  room_behind_act n (StartIteration k user item until) act = on_idle_room n k user item until (StartIteration k user item until) act refl refl
+  room_behind_act n (DropIteration k item) act = room_end plan k item state ∙ omega arith
+  room_behind_act n (CloseScenario k) act = room_same plan state k (λ share. record share { closed = true }) (λ share. refl) ∙ omega arith
+  room_behind_act n (AnswerArrival k due item until CountLate) act = room_end plan k item state ∙ omega arith
+  room_behind_act n (AnswerArrival k due item until DropArrival) act = room_end plan k item state ∙ omega arith
+  room_behind_act n (AnswerArrival k due item until (StartOn user)) act =
+      on_idle_room n k user item until (AnswerArrival k due item until (StartOn user)) act refl refl
+  room_behind_act n (AnswerArrival k due item until (GrowAndStart user slot)) act =
+      let m : Move = AnswerArrival k due item until (GrowAndStart user slot) in
+      held_starts (Grow k user slot) n k user slot item until m act refl
+      (next_unheld plan state thread t reply well user (grown_of_act plan state t n m act user refl))
+      (held_at n k user slot m act refl) (grown_room k user slot)
+  room_behind_act n (AnswerArrival k due item until (TakeAndStart user slot)) act =
+      let m : Move = AnswerArrival k due item until (TakeAndStart user slot) in
+      held_starts (Take k user slot) n k user slot item until m act refl
+      (free_unheld plan state thread t reply well user (free_of_act plan state t n m act user refl))
+      (held_at n k user slot m act refl) (held_room k user slot)

@@ -138,7 +138,7 @@ busy_behind_return plan state thread t reply stint outcome tally well out =
 -- ---- a first act
 
 -- a user that is taken or grown, idle and held once
-change_stands : (n : ℕ) (change : Share → Share) (share : Share) (shares : List Share) → slice_get shares n ≡ Some share → slice_get (change_at n change shares) n ≡ Some (change share)
+pub change_stands : (n : ℕ) (change : Share → Share) (share : Share) (shares : List Share) → slice_get shares n ≡ Some share → slice_get (change_at n change shares) n ≡ Some (change share)
 change_stands n change share [] h = absurd (cc)
 change_stands zero change share (x ∷ rest) h = let same : x ≡ share = cc in ap (λ s. Some (change s)) same
 change_stands (suc n) change share (x ∷ rest) h = change_stands n change share rest h
@@ -152,7 +152,7 @@ with_there h (g ∷ rest) =
 hit_itself : (user : ℕ) → hit user user ≡ 1
 hit_itself user = rw (number_itself user) refl
 
-hold_once : (user slot : ℕ) (share : Share) → times_among user share.held ≡ 0 → HoldsOnce is_idle (hold user slot share) user
+pub hold_once : (user slot : ℕ) (share : Share) → times_among user share.held ≡ 0 → HoldsOnce is_idle (hold user slot share) user
 hold_once user slot share none =
     let h : HeldUser = record { user = user; slot = slot; condition = Idle } in
     let times = times-with_user user h share.held in
@@ -180,14 +180,14 @@ module _ (plan : Plan) (state : State) (thread t : ℕ) (reply : Reply) (well : 
       second ∙ ap (λ k. k + 1) first
 
   -- nobody holds a free user, or the one that is made next
-  free_unheld : (user : ℕ) → Contains (free_users state) user → times_held user state.shares ≡ 0
+  pub free_unheld : (user : ℕ) → Contains (free_users state) user → times_held user state.shares ≡ 0
   free_unheld user free = none_held user state.shares (free_tells_all state user free).2
 
-  next_unheld : (user : ℕ) → user ≡ state.made + 1 → times_held user state.shares ≡ 0
+  pub next_unheld : (user : ℕ) → user ≡ state.made + 1 → times_held user state.shares ≡ 0
   next_unheld user next = (well_kept state well).holds.unmade user (omega arith)
 
   -- the share of an act's own number
-  share_at : (n : ℕ) (m : Move) (act : IsActOf plan state t n m) → slice_get state.shares (scenario_of m) ≡ Some act.0.share
+  pub share_at : (n : ℕ) (m : Move) (act : IsActOf plan state t n m) → slice_get state.shares (scenario_of m) ≡ Some act.0.share
   share_at n m act = subst (λ k. slice_get state.shares k ≡ Some act.0.share) (sym (number_of_act plan state t n m act)) (share_of_act plan state t n m act)
 
   on_idle : (n k user item until : ℕ) (m : Move) (act : IsActOf plan state t n m) → scenario_of m ≡ k → idle_user_of m ≡ Some user →

@@ -324,6 +324,18 @@ pub fn room_under_change()
         busy_room plan (after_command state command t) ≡ busy_room plan state }
 {}
 
+/// Behind an act of a scenario the iterations under way have more room, that of the script of each user
+/// that it makes busy, and behind a Return of a stint that is out less, that of its script.
+pub fn room_behind_steps()
+    ensures act { (plan : Plan) (state : State) (thread t : ℕ) (reply : Reply) (n : ℕ) (m : Move) → WellHeld state → IsActOf plan state t n m →
+        busy_room plan (performed plan state thread t reply (acts_of m)).state
+        ≡ busy_room plan state + made_busy m * script_room plan (scenario_of m) }
+    ensures returned { (plan : Plan) (state : State) (thread t : ℕ) (reply : Reply) (stint : StintView) (outcome : Outcome) (tally : TallyView) →
+        WellHeld state → is_out state thread stint ≡ true →
+        busy_room plan (performed plan state thread t reply (return_of stint outcome tally ∷ [])).state + script_room plan stint.scenario
+        ≡ busy_room plan state }
+{}
+
 /// The scenarios as they stand: number n has the part and the share of this number, and the controls;
 /// there are as many as parts, where there is a share for each.
 pub fn scenarios_stand()
