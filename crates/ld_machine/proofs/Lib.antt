@@ -21,5 +21,6 @@ pub mod BusyLemmas
 pub mod FreeLemmas
 pub mod WellHeldLemmas
 pub mod BusyStepLemmas
+pub mod FreeStepLemmas
 pub mod ScenarioListLemmas
 pub mod BusyRoomLemmas

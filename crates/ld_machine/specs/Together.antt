@@ -97,6 +97,11 @@ free_user_of (TakeUser _ user _) = Some user
 free_user_of (AnswerArrival _ _ _ _ (TakeAndStart user _)) = Some user
 free_user_of _ = None
 
+-- the user that an act releases
+abbrev pub released_user_of : Move → Option ℕ
+released_user_of (ReleaseUser _ user) = Some user
+released_user_of _ = None
+
 -- the user that an act makes
 abbrev pub grown_user_of : Move → Option ℕ
 grown_user_of (AnswerArrival _ _ _ _ (GrowAndStart user _)) = Some user

@@ -24,7 +24,7 @@ ghost use Rattle.ld_machine.specs.Effect.{hold, put_condition, let_go, end_item,
 ghost use Rattle.ld_machine.specs.FurtherExamples.{two_plan, two_done};
 ghost use Rattle.ld_machine.specs.History.{IsLegal};
 ghost use Rattle.ld_machine.specs.Step.{IsStep, Result, answered, is_out, move_result, performed, results, return_of};
-ghost use Rattle.ld_machine.specs.Together.{IsActOf, NoneBefore, NoneActs, IsFirstOf, IsFirstBelow, NoneActsBelow, lesser, least_above, least_moment, least_with_untils, least_until, least_until_in, IsLeast, IsLeastAbove, HoldsOnce, holds, WellHeld, idle_user_of, free_user_of, grown_user_of};
+ghost use Rattle.ld_machine.specs.Together.{IsActOf, NoneBefore, NoneActs, IsFirstOf, IsFirstBelow, NoneActsBelow, lesser, least_above, least_moment, least_with_untils, least_until, least_until_in, IsLeast, IsLeastAbove, HoldsOnce, holds, WellHeld, idle_user_of, free_user_of, released_user_of, grown_user_of};
 
 /// No place is before itself, and what is before a place is before all that the place is before. So
 /// of two places one at most is before the other. Of the places of acts, where a first isn't before
@@ -227,9 +227,10 @@ pub fn held_in_share()
     ensures others { (user other : ℕ) (share : Share) → other ≢ user → holds other (let_go user share) ≡ holds other share }
     ensures put { (user other : ℕ) (condition : Condition) (share : Share) → holds other (put_condition user condition share) ≡ holds other share }
     ensures same { (user : ℕ) (a b : Share) → a.held ≡ b.held → holds user a ≡ holds user b }
+    ensures once { (passes : HeldUser → Bool) (share : Share) (user : ℕ) → HoldsOnce passes share user → holds user share ≡ true }
 {}
 
-/// Who is held by some share behind a change of one.
+/// Who is held by some share, and behind a change of one. No share holds a user more often than all.
 pub fn held_under_change()
     ensures held { (state : State) (n user slot other : ℕ) (share : Share) → slice_get state.shares n ≡ Some share →
         is_held (change_share state n (hold user slot)) other ≡ ((user == other) || is_held state other) }
@@ -241,6 +242,8 @@ pub fn held_under_change()
         is_held (change_share state n (put_condition user condition)) other ≡ is_held state other }
     ensures same { (state : State) (n user : ℕ) (change : Share → Share) → ((share : Share) → (change share).held ≡ share.held) →
         is_held (change_share state n change) user ≡ is_held state user }
+    ensures some { (state : State) (n user : ℕ) (share : Share) → slice_get state.shares n ≡ Some share → holds user share ≡ true →
+        is_held state user ≡ true }
     ensures among { (state : State) (n user : ℕ) (share : Share) → slice_get state.shares n ≡ Some share →
         times_among user share.held ≤ times_held user state.shares }
 {}
@@ -309,6 +312,16 @@ pub fn busy_behind_steps()
     ensures returned { (plan : Plan) (state : State) (thread t : ℕ) (reply : Reply) (stint : StintView) (outcome : Outcome) (tally : TallyView) →
         WellHeld state → is_out state thread stint ≡ true →
         busy_count (performed plan state thread t reply (return_of stint outcome tally ∷ [])).state + 1 ≡ busy_count state }
+{}
+
+/// Behind an act of a scenario those are free that were free before, but for the user that it takes,
+/// and the user that it releases; behind a Return the same.
+pub fn free_behind_steps()
+    ensures act { (plan : Plan) (state : State) (thread t : ℕ) (reply : Reply) (n : ℕ) (m : Move) (other : ℕ) → WellHeld state → IsActOf plan state t n m →
+        Contains (free_users (performed plan state thread t reply (acts_of m)).state) other
+        ↔ ((Contains (free_users state) other × (free_user_of m ≢ Some other)) ⊎ (released_user_of m ≡ Some other)) }
+    ensures returned { (plan : Plan) (state : State) (thread t : ℕ) (reply : Reply) (stint : StintView) (outcome : Outcome) (tally : TallyView) →
+        free_users (performed plan state thread t reply (return_of stint outcome tally ∷ [])).state ≡ free_users state }
 {}
 
 /// The sample room of all iterations under way changes as the number of the changed share's busy users

@@ -1,4 +1,5 @@
 use Rattle.ld_machine.proofs.FreeLemmas.{holds_hold, holds_let_go, holds_itself, holds_put, holds_same}
+use Rattle.ld_machine.proofs.FreeStepLemmas.{once_holds}
 use Rattle.ld_machine.proofs.together.held_in_share.Goals as goal
 
 pub returns-clause-held : goal.returns-clause-held
@@ -15,3 +16,6 @@ returns-clause-put c = holds_put
 
 pub returns-clause-same : goal.returns-clause-same
 returns-clause-same c = holds_same
+
+pub returns-clause-once : goal.returns-clause-once
+returns-clause-once c = once_holds

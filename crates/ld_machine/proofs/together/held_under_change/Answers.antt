@@ -1,5 +1,6 @@
 use Rattle.ld_machine.specs.Effect.{put_condition, let_go}
 use Rattle.ld_machine.proofs.FreeLemmas.{holds_let_go, holds_put, holds_same, held_same, held_hold, held_let_go, among_held}
+use Rattle.ld_machine.proofs.FreeStepLemmas.{share_held}
 use Rattle.ld_machine.proofs.together.held_under_change.Goals as goal
 
 pub returns-clause-held : goal.returns-clause-held
@@ -19,3 +20,6 @@ returns-clause-same c state n user change same = held_same state n change user (
 
 pub returns-clause-among : goal.returns-clause-among
 returns-clause-among c state n user share = among_held user n share state.shares
+
+pub returns-clause-some : goal.returns-clause-some
+returns-clause-some c = share_held
