@@ -1,8 +1,7 @@
 -- How many users are busy behind an act.
-use Rattle.std.proofs.Common.{Contains, ◌≡◌, ◌≤◌, ◌<◌, ◌+◌, ◌==◌, ◌∙◌, if◌then◌else◌, ℕ, zero, suc, Bool, true, false, not, cond, nat_lt, List, [], ◌∷◌, ◌++◌, length, Option, None, Some, map, filter, flat_map, arith, refl, sym, ap, subst, slice_get, length-append}
+use Rattle.std.proofs.Common.{◌≡◌, ◌≤◌, ◌+◌, ◌==◌, ◌∙◌, ℕ, zero, suc, Bool, true, false, not, cond, nat_lt, List, [], ◌∷◌, ◌++◌, length, Option, None, Some, map, filter, flat_map, arith, refl, sym, ap, subst, slice_get, length-append}
 use Rattle.std.specs.Option.{option_map_or}
 use Rattle.std.specs.List.{list_any}
-use Rattle.std.proofs.lemmas.Bool.{true≢false}
 use Rattle.std.proofs.lemmas.Grind.{common_steps}
 use Rattle.ld_base.specs.Tally.{TallyView}
 use Rattle.ld_base.specs.declared.act.Act.TheVariants.{Take, Grow, Start, Return, Release, Stop, Close}
@@ -10,13 +9,13 @@ use Rattle.ld_base.specs.declared.act.Outcome.{Outcome}
 use Rattle.ld_base.specs.declared.command.Command.{Command}
 use Rattle.ld_base.specs.declared.command.Command.TheVariants as commands
 use Rattle.ld_machine.specs.Plan.{Part, Plan, owned_items}
-use Rattle.ld_machine.specs.State.{StartsNothing, Halted, Condition, Idle, Busy, HeldUser, Share, State, is_idle_condition, is_busy_condition, is_idle, is_busy, busy_users, busy_count, times_among, times_held}
+use Rattle.ld_machine.specs.State.{StartsNothing, Halted, Condition, Idle, Busy, HeldUser, Share, State, is_idle_condition, is_busy_condition, is_idle, is_busy, busy_users, busy_count, times_among}
 use Rattle.ld_machine.specs.Commands.{stop_commanded_share, after_command}
 use Rattle.ld_machine.specs.Effect.{after_act, with_user, if_user, hold, put_condition, let_go, end_item, change_at, change_share, end_item_of}
 use Rattle.ld_machine.specs.Together.{HoldsOnce}
 use Rattle.ld_machine.proofs.ListLemmas.{In, here, there, nothing_in, number_itself}
 use Rattle.ld_machine.proofs.TurnLemmas.{among_there}
-use Rattle.ld_machine.proofs.FirstOfAllLemmas.{In-of, false_unless}
+use Rattle.ld_machine.proofs.FirstOfAllLemmas.{In-of}
 
 -- ---- one share
 

@@ -1,21 +1,19 @@
 -- The sample room of the iterations under way, behind an act.
-use Rattle.std.proofs.Common.{Contains, ◌≡◌, ◌+◌, ◌*◌, ◌∙◌, ◌++◌, ◌==◌, ◌&&◌, ℕ, zero, suc, Bool, true, false, cond, List, [], ◌∷◌, length, Option, None, Some, map, filter, sum_by, arith, refl, sym, ap, subst, slice_get}
+use Rattle.std.proofs.Common.{◌≡◌, ◌+◌, ◌*◌, ◌∙◌, ℕ, zero, suc, true, List, [], ◌∷◌, length, Option, None, Some, map, filter, sum_by, arith, refl, sym, ap, subst, slice_get}
 use Rattle.std.specs.Option.{option_map_or}
-use Rattle.std.specs.List.{list_any}
-use Rattle.std.proofs.lemmas.Grind.{common_steps}
 use Rattle.std.proofs.lemmas.List.Sums.{sum_by-cons}
 use Rattle.ld_base.specs.Stint.{StintView}
 use Rattle.ld_base.specs.Tally.{TallyView}
 use Rattle.ld_base.specs.declared.act.Act.{Act}
-use Rattle.ld_base.specs.declared.act.Act.TheVariants.{Take, Grow, Start, Return, Release, Stop, Close}
+use Rattle.ld_base.specs.declared.act.Act.TheVariants.{Take, Grow, Start, Return, Release}
 use Rattle.ld_base.specs.declared.act.Outcome.{Outcome}
 use Rattle.ld_base.specs.declared.command.Command.{Command}
 use Rattle.ld_base.specs.declared.command.Command.TheVariants as commands
 use Rattle.ld_base.specs.declared.reply.Reply.{Reply}
 use Rattle.ld_machine.specs.Plan.{Part, Plan}
-use Rattle.ld_machine.specs.State.{Halted, Idle, Busy, HeldUser, Share, Controls, State, is_idle, is_busy, busy_users, times_held}
+use Rattle.ld_machine.specs.State.{Halted, Idle, Busy, Share, Controls, State, is_idle, is_busy, busy_users, times_held}
 use Rattle.ld_machine.specs.Scenario.{Scenario}
-use Rattle.ld_machine.specs.Moves.{Answer, CountLate, StartOn, GrowAndStart, TakeAndStart, DropArrival, Move, StopScenario, ReleaseUser, TakeUser, AnswerArrival, StartIteration, DropIteration, CloseScenario, scenarios_with, scenarios}
+use Rattle.ld_machine.specs.Moves.{CountLate, StartOn, GrowAndStart, TakeAndStart, DropArrival, Move, StopScenario, ReleaseUser, TakeUser, AnswerArrival, StartIteration, DropIteration, CloseScenario, scenarios_with}
 use Rattle.ld_machine.specs.Acts.{acts_of, made_busy, scenario_of}
 use Rattle.ld_machine.specs.Room.{script_room, busy_room}
 use Rattle.ld_machine.specs.Commands.{stop_commanded_share, after_command}

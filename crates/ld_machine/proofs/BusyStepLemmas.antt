@@ -1,30 +1,28 @@
 -- Whose user an act is on, and how many users are busy behind a step.
-use Rattle.std.proofs.Common.{Contains, ◌≡◌, ◌≤◌, ◌<◌, ◌+◌, ◌==◌, ◌∙◌, ◌&&◌, ℕ, zero, suc, Bool, true, false, cond, nat_lt, List, [], ◌∷◌, Option, None, Some, arith, refl, sym, ap, subst, slice_get}
+use Rattle.std.proofs.Common.{Contains, ◌≡◌, ◌≤◌, ◌+◌, ◌==◌, ◌∙◌, ◌&&◌, ℕ, zero, suc, Bool, true, false, cond, nat_lt, List, [], ◌∷◌, Option, None, Some, arith, refl, sym, ap, subst, slice_get}
 use Rattle.std.specs.Option.{option_map_or}
-use Rattle.std.specs.List.{list_any, range_with_len}
-use Rattle.std.proofs.lemmas.Bool.{true≢false}
-use Rattle.std.proofs.lemmas.Grind.{common_steps}
+use Rattle.std.specs.List.{list_any}
 use Rattle.ld_base.specs.Stint.{StintView}
 use Rattle.ld_base.specs.Tally.{TallyView}
 use Rattle.ld_base.specs.declared.act.Act.TheVariants.{Take, Grow, Start}
 use Rattle.ld_base.specs.declared.act.Outcome.{Outcome}
 use Rattle.ld_base.specs.declared.reply.Reply.{Reply}
-use Rattle.ld_machine.specs.Plan.{Plan, hard_moment, due_moment}
-use Rattle.ld_machine.specs.State.{Condition, Idle, Busy, HeldUser, Share, State, is_idle, is_busy, is_busy_condition, idle_users, busy_count, is_held, free_users, times_among, times_held}
-use Rattle.ld_machine.specs.Scenario.{Scenario, until_of}
-use Rattle.ld_machine.specs.Moves.{Answer, CountLate, StartOn, GrowAndStart, TakeAndStart, DropArrival, Move, StopScenario, ReleaseUser, TakeUser, AnswerArrival, StartIteration, DropIteration, CloseScenario, Users, users_of, moves_of, scenarios}
+use Rattle.ld_machine.specs.Plan.{Plan}
+use Rattle.ld_machine.specs.State.{Condition, Idle, Busy, HeldUser, Share, State, is_idle, is_busy, is_busy_condition, idle_users, busy_count, free_users, times_among, times_held}
+use Rattle.ld_machine.specs.Scenario.{Scenario}
+use Rattle.ld_machine.specs.Moves.{CountLate, StartOn, GrowAndStart, TakeAndStart, DropArrival, Move, StopScenario, ReleaseUser, TakeUser, AnswerArrival, StartIteration, DropIteration, CloseScenario, Users, users_of}
 use Rattle.ld_machine.specs.Acts.{acts_of, made_busy, scenario_of}
-use Rattle.ld_machine.specs.Effect.{with_user, hold, change_at, change_share, count_entry, after_act}
+use Rattle.ld_machine.specs.Effect.{with_user, hold, change_at, count_entry, after_act}
 use Rattle.ld_machine.specs.Step.{is_busy_with, is_out, return_of, performed}
 use Rattle.ld_machine.specs.Together.{IsActOf, HoldsOnce, WellHeld, idle_user_of, free_user_of, grown_user_of}
-use Rattle.ld_machine.proofs.ListLemmas.{In, here, there, nothing_in, In-filter, In-from_any, Contains-from_In, both_true, number_itself, some_not_none}
+use Rattle.ld_machine.proofs.ListLemmas.{In, here, there, In-filter, In-from_any, Contains-from_In, both_true, number_itself}
 use Rattle.ld_machine.proofs.SourceLemmas.{Source, by_stop, by_release, by_take, by_arrival, by_start, by_drop, by_close, source_of, grow_answer, take_answer, on_answer}
 use Rattle.ld_machine.proofs.ItemLemmas.{stands_share}
 use Rattle.ld_machine.proofs.HolderLemmas.{times-with_user, hit, none_held}
-use Rattle.ld_machine.proofs.FirstOfAllLemmas.{In-of, false_unless}
+use Rattle.ld_machine.proofs.FirstOfAllLemmas.{In-of}
 use Rattle.ld_machine.proofs.BusyLemmas.{same_number, take_busy, grow_busy, start_busy, return_busy, release_busy, stop_busy, close_busy, busy_end}
-use Rattle.ld_machine.proofs.FreeLemmas.{among_held, free_tells_all, any_times}
-use Rattle.ld_machine.proofs.WellHeldLemmas.{Kept, well_kept}
+use Rattle.ld_machine.proofs.FreeLemmas.{among_held, free_tells_all}
+use Rattle.ld_machine.proofs.WellHeldLemmas.{well_kept}
 
 -- ---- whose user an act is on
 

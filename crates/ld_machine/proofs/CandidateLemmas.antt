@@ -1,5 +1,5 @@
 -- The least of some moments, and the next candidate put together of its parts.
-use Rattle.std.proofs.Common.{Contains, ◌≡◌, ◌↔◌, ◌<◌, ◌≤◌, ◌+◌, ◌∙◌, ℕ, zero, suc, Bool, true, false, cond, nat_lt, List, [], ◌∷◌, ◌++◌, length, Option, None, Some, min, filter, filter_map, flat_map, arith, refl, sym, ap, subst, if◌then◌else◌}
+use Rattle.std.proofs.Common.{Contains, ◌≡◌, ◌<◌, ◌≤◌, ◌∙◌, ℕ, Bool, true, false, cond, nat_lt, List, [], ◌∷◌, ◌++◌, length, Option, None, Some, min, filter, filter_map, flat_map, arith, refl, sym, ap, subst, if◌then◌else◌}
 use Rattle.std.specs.Prelude.{option_to_list}
 use Rattle.std.specs.Option.{option_map_or}
 use Rattle.std.specs.List.{cons_option}
@@ -10,7 +10,7 @@ use Rattle.ld_machine.specs.Plan.{Part, Plan}
 use Rattle.ld_machine.specs.State.{HeldUser, Share, Controls, State}
 use Rattle.ld_machine.specs.Scenario.{Scenario}
 use Rattle.ld_machine.specs.Moves.{scenarios_with, scenarios}
-use Rattle.ld_machine.specs.Wait.{busy_until, scenario_moments, untils, candidates, least_of, next_candidate}
+use Rattle.ld_machine.specs.Wait.{busy_until, scenario_moments, untils, least_of, next_candidate}
 use Rattle.ld_machine.specs.Together.{lesser, least_above, least_moment, least_with_untils, least_until, least_until_in, IsLeast, IsLeastAbove}
 use Rattle.ld_machine.proofs.ListLemmas.{In, here, there, nothing_in, In-filter, filter-In, Contains-from_In, some_not_none}
 use Rattle.ld_machine.proofs.WaitLemmas.{least_below}
@@ -64,13 +64,14 @@ some_is : (a b : ℕ) → Some a ≡ Some b → a ≡ b
 some_is a b h = cc
 
 pub least_tells : (xs : List ℕ) (m : ℕ) → least_of xs ≡ Some m → IsLeast xs m
-least_tells xs m h =
-    (Contains-from_In m (least_in xs m h),
-     λ x at.
+least_tells xs m h = (
+  Contains-from_In m (least_in xs m h),
+  λ x at.
       let least = least_below x (In-of at) in
       let same : least.0 ≡ m = some_is least.0 m (sym least.1 ∙ h) in
       let below : least.0 ≤ x = least.2 in
-      omega arith)
+      omega arith,
+)
 
 pub least_is : (xs : List ℕ) (m : ℕ) → IsLeast xs m → least_of xs ≡ Some m
 least_is xs m h =
@@ -95,15 +96,18 @@ passes_above t x h = grind (arith, common_steps)
 pub above_tells : (t : ℕ) (xs : List ℕ) (m : ℕ) → least_above t xs ≡ Some m → IsLeastAbove t xs m
 above_tells t xs m h =
     let told = least_tells (filter (nat_lt t) xs) m h in
-    let kept = In-filter (nat_lt t) m xs (In-of told.0) in
-    (Contains-from_In m kept.0, passes_above t m kept.1,
-     λ x at above. told.1 x (Contains-from_In x (filter-In (nat_lt t) x (In-of at) (above_passes t x above))))
+    let kept = In-filter (nat_lt t) m xs (In-of told.0) in (
+      Contains-from_In m kept.0,
+      passes_above t m kept.1,
+      λ x at above. told.1 x (Contains-from_In x (filter-In (nat_lt t) x (In-of at) (above_passes t x above))),
+    )
 
 pub above_is : (t : ℕ) (xs : List ℕ) (m : ℕ) → IsLeastAbove t xs m → least_above t xs ≡ Some m
 above_is t xs m h =
-    least_is (filter (nat_lt t) xs) m
-    (Contains-from_In m (filter-In (nat_lt t) m (In-of h.0) (above_passes t m h.1)),
-     λ x at. let kept = In-filter (nat_lt t) x xs (In-of at) in h.2 x (Contains-from_In x kept.0) (passes_above t x kept.1))
+    least_is (filter (nat_lt t) xs) m (
+      Contains-from_In m (filter-In (nat_lt t) m (In-of h.0) (above_passes t m h.1)),
+      λ x at. let kept = In-filter (nat_lt t) x xs (In-of at) in h.2 x (Contains-from_In x kept.0) (passes_above t x kept.1),
+    )
 
 pub none_above : (t : ℕ) (xs : List ℕ) → least_above t xs ≡ None → (x : ℕ) → Contains xs x → x ≤ t
 none_above t xs h x at =

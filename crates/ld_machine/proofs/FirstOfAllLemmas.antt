@@ -1,22 +1,21 @@
 -- The first acts are those of some scenario that no act of any scenario is before.
-use Rattle.std.proofs.Common.{Contains, ◌≡◌, ◌↔◌, ◌+◌, ◌==◌, ◌∙◌, ℕ, zero, suc, Bool, true, false, not, cond, ◌&&◌, List, [], ◌∷◌, ◌++◌, Option, None, Some, map, filter, filter_map, flat_map, arith, refl, sym, ap, subst, slice_get}
+use Rattle.std.proofs.Common.{Contains, ◌≡◌, ◌+◌, ◌∙◌, ℕ, zero, suc, Bool, true, false, not, List, [], ◌∷◌, Option, None, Some, map, filter, filter_map, flat_map, arith, refl, sym, ap, subst, slice_get}
 use Rattle.std.specs.Prelude.{option_map, option_to_list}
 use Rattle.std.specs.Option.{option_map_or}
-use Rattle.std.specs.List.{list_any, list_all, enumerate_from}
+use Rattle.std.specs.List.{list_all, enumerate_from}
 use Rattle.std.proofs.lemmas.Bool.{true≢false}
 use Rattle.std.proofs.lemmas.Grind.{common_steps}
 use Rattle.ld_base.specs.declared.reply.Reply.TheVariants.{Wait, Over}
-use Rattle.ld_machine.specs.Plan.{Part, Plan}
+use Rattle.ld_machine.specs.Plan.{Plan}
 use Rattle.ld_machine.specs.State.{HeldUser, Share, State, idle_users, all_closed}
-use Rattle.ld_machine.specs.Scenario.{Scenario, is_open, level_runs, runs, may_stop, may_release, may_take, slots_to_take, item_to_start, until_of, item_to_drop, may_close, due_arrival}
+use Rattle.ld_machine.specs.Scenario.{Scenario, is_open, runs, may_release, may_take, slots_to_take, due_arrival}
 use Rattle.ld_machine.specs.Moves.{Move, Users, users_of, ReleaseUser, TakeUser, DropIteration, stops, releases, takes, answers_to, arrivals, start_on, starts, drops, closes, moves_of, scenarios, enabled}
-use Rattle.ld_machine.specs.Order.{is_before, place_of, first_among, first_moves}
+use Rattle.ld_machine.specs.Order.{is_before, place_of, first_moves}
 use Rattle.ld_machine.specs.Wait.{wait_moment}
-use Rattle.ld_machine.specs.Step.{Result, answered, move_result, open_results, act_results}
+use Rattle.ld_machine.specs.Step.{answered, move_result, open_results, act_results}
 use Rattle.ld_machine.specs.Together.{IsActOf, NoneBefore, NoneActs}
-use Rattle.ld_machine.proofs.ListLemmas.{In, here, there, nothing_in, In-filter, filter-In, In-from_any, any-from_In, In-from_Contains, Contains-from_In, In-flat_map, In-enumerate, all_at, both_true}
-use Rattle.ld_machine.proofs.OrderLemmas.{before_itself, before_along, one_place, is_beaten, none_first}
-use Rattle.ld_machine.proofs.StepLemmas.{EnabledAt, first_enabled}
+use Rattle.ld_machine.proofs.ListLemmas.{In, here, there, nothing_in, In-filter, filter-In, In-from_any, any-from_In, In-from_Contains, Contains-from_In, In-flat_map, In-enumerate, all_at}
+use Rattle.ld_machine.proofs.OrderLemmas.{before_itself, before_along, one_place, is_beaten}
 use Rattle.ld_machine.proofs.StopLemmas.{no_take, no_start, no_drop}
 use Rattle.ld_machine.proofs.WaitLemmas.{flat_map-In}
 use Rattle.ld_machine.proofs.ItemLemmas.{stands_share}
@@ -77,25 +76,26 @@ module _ (plan : Plan) (state : State) (t : ℕ) where
   pub is_first : (n : ℕ) (m : Move) → IsActOf plan state t n m → NoneBefore plan state t m → In m (first_moves plan state t)
   is_first n m h unbeaten =
       let none : is_beaten (enabled plan state t) m ≡ false = false_unless (is_beaten (enabled plan state t) m) (λ beaten.
-        let other = In-from_any (λ other. is_before (place_of other) (place_of m)) (enabled plan state t) beaten in
-        let act = enabled_act other.0 other.1 in
-        true≢false (sym other.2 ∙ unbeaten act.0 other.0 act.1)) in
+      let other = In-from_any (λ other. is_before (place_of other) (place_of m)) (enabled plan state t) beaten in
+      let act = enabled_act other.0 other.1 in
+      true≢false (sym other.2 ∙ unbeaten act.0 other.0 act.1)) in
       filter-In (λ x. not (is_beaten (enabled plan state t) x)) m (act_enabled n m h) (rw none refl)
 
   -- and the other way round
   pub first_is : (m : Move) → In m (first_moves plan state t) → ((n : ℕ) × IsActOf plan state t n m) × NoneBefore plan state t m
   first_is m h =
-      let kept = In-filter (λ x. not (is_beaten (enabled plan state t) x)) m (enabled plan state t) h in
-      (enabled_act m kept.0,
-       λ k other act. false_unless (is_before (place_of other) (place_of m)) (λ before.
-        let beaten = any-from_In (λ x. is_before (place_of x) (place_of m)) other (act_enabled k other act) before in
-        let not_beaten : not (is_beaten (enabled plan state t) m) ≡ true = kept.1 in
-        grind (arith, common_steps)))
+      let kept = In-filter (λ x. not (is_beaten (enabled plan state t) x)) m (enabled plan state t) h in (
+        enabled_act m kept.0,
+        λ k other act. false_unless (is_before (place_of other) (place_of m)) (λ before.
+            let beaten = any-from_In (λ x. is_before (place_of x) (place_of m)) other (act_enabled k other act) before in
+            let not_beaten : not (is_beaten (enabled plan state t) m) ≡ true = kept.1 in
+            grind (arith, common_steps)),
+      )
 
   -- where each act of a scenario has an act no later, which the chosen one isn't behind, that is a first one
   pub first_by_each : (n : ℕ) (m : Move) → IsActOf plan state t n m →
       ((k : ℕ) (other : Move) → IsActOf plan state t k other →
-       (f : Move) × (is_before (place_of other) (place_of f) ≡ false) × (is_before (place_of f) (place_of m) ≡ false)) →
+      (f : Move) × (is_before (place_of other) (place_of f) ≡ false) × (is_before (place_of f) (place_of m) ≡ false)) →
       In m (first_moves plan state t)
   first_by_each n m h each = is_first n m h (λ k other act. let f = each k other act in not_before_along other f.0 m f.1 f.2)
 
@@ -151,6 +151,10 @@ all_from (x ∷ xs) each = rw (each zero x refl, all_from xs (λ n share at. eac
 -- all scenarios are closed exactly where each is
 pub each_closed : (state : State) → all_closed state ≡ true → (n : ℕ) (share : Share) → slice_get state.shares n ≡ Some share → share.closed ≡ true
 each_closed state h n share at = all_at (λ (share : Share). share.closed) share (share-In share n state.shares at) h
+
+-- and not where one isn't
+pub not_closed : (state : State) (n : ℕ) (share : Share) → slice_get state.shares n ≡ Some share → share.closed ≡ false → all_closed state ≡ false
+not_closed state n share at opened = false_unless (all_closed state) (λ shut. true≢false (sym (each_closed state shut n share at) ∙ opened))
 
 module _ (plan : Plan) (state : State) (t : ℕ) where
   -- where a scenario may perform an act, not all are closed

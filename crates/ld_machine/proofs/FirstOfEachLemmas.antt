@@ -1,6 +1,5 @@
 -- The first act of all is found among the first acts of the scenarios, one scenario after another.
-use Rattle.std.proofs.Common.{Contains, ◌≡◌, ◌≢◌, ◌<◌, ◌≤◌, ◌+◌, ◌==◌, ◌∙◌, ℕ, zero, suc, Bool, true, false, not, List, [], ◌∷◌, length, Option, None, Some, arith, refl, sym, ap, subst, slice_get}
-use Rattle.std.specs.List.{list_any}
+use Rattle.std.proofs.Common.{Contains, ◌≡◌, ◌<◌, ◌≤◌, ◌+◌, ◌==◌, ◌∙◌, ℕ, zero, suc, Bool, true, false, not, List, [], ◌∷◌, length, Some, arith, refl, sym, subst, slice_get}
 use Rattle.std.proofs.Math.Decide.{dec_lt}
 use Rattle.std.proofs.lemmas.Bool.{true≢false}
 use Rattle.std.proofs.lemmas.Grind.{common_steps}
@@ -9,9 +8,9 @@ use Rattle.ld_machine.specs.State.{State}
 use Rattle.ld_machine.specs.Scenario.{Scenario}
 use Rattle.ld_machine.specs.Moves.{Move, users_of, moves_of, scenarios}
 use Rattle.ld_machine.specs.Order.{is_before, place_of, first_among, first_moves}
-use Rattle.ld_machine.specs.Together.{IsActOf, NoneBefore, NoneActs, IsFirstOf, IsFirstBelow, NoneActsBelow}
-use Rattle.ld_machine.proofs.ListLemmas.{In, here, there, nothing_in, In-filter, filter-In, In-from_any, any-from_In, Contains-from_In}
-use Rattle.ld_machine.proofs.OrderLemmas.{is_beaten, unbeaten, before_along}
+use Rattle.ld_machine.specs.Together.{IsActOf, NoneActs, IsFirstOf, IsFirstBelow, NoneActsBelow}
+use Rattle.ld_machine.proofs.ListLemmas.{In, nothing_in, In-filter, filter-In, In-from_any, any-from_In, Contains-from_In}
+use Rattle.ld_machine.proofs.OrderLemmas.{is_beaten, unbeaten}
 use Rattle.ld_machine.proofs.FirstOfAllLemmas.{false_unless, not_before_along, before_once, In-of, is_first, first_is, first_by_each}
 
 -- ---- of a list
@@ -34,8 +33,8 @@ pub first_passes : (moves : List Move) (m : Move) →
     Contains moves m × ((other : Move) → Contains moves other → is_before (place_of other) (place_of m) ≡ false) → Contains (first_among moves) m
 first_passes moves m h =
     let none : is_beaten moves m ≡ false = false_unless (is_beaten moves m) (λ beaten.
-      let other = In-from_any (λ x. is_before (place_of x) (place_of m)) moves beaten in
-      true≢false (sym other.2 ∙ h.1 other.0 (Contains-from_In other.0 other.1))) in
+    let other = In-from_any (λ x. is_before (place_of x) (place_of m)) moves beaten in
+    true≢false (sym other.2 ∙ h.1 other.0 (Contains-from_In other.0 other.1))) in
     Contains-from_In m (filter-In (λ x. not (is_beaten moves x)) m (In-of h.0) (rw none refl))
 
 -- of acts that are there, a first one is there
@@ -66,9 +65,15 @@ module _ (plan : Plan) (state : State) (t : ℕ) where
   pub first_of_its : (m : Move) → Contains (first_moves plan state t) m → (n : ℕ) × IsFirstOf plan state t n m
   first_of_its m h =
       let told = first_is plan state t m (In-of h) in
-      let act = told.0.1 in
-      (told.0.0, (act.0, act.1, first_passes (moves_of (users_of plan state) told.0.0 act.0 t) m
-        (act.2, λ other at. told.1 told.0.0 other (act.0, act.1, at))))
+      let act = told.0.1 in (
+        told.0.0,
+        (
+          act.0,
+          act.1,
+          first_passes (moves_of (users_of plan state) told.0.0 act.0 t) m
+              (act.2, λ other at. told.1 told.0.0 other (act.0, act.1, at)),
+        ),
+      )
 
   pub first_by_firsts : (n : ℕ) (m : Move) → IsActOf plan state t n m →
       ((k : ℕ) (f : Move) → IsFirstOf plan state t k f → is_before (place_of f) (place_of m) ≡ false) → Contains (first_moves plan state t) m
@@ -122,33 +127,37 @@ module _ (plan : Plan) (state : State) (t : ℕ) where
   no_act n other empty act = nothing_in (subst (λ ms. In other ms) (empty act.0 act.1) (In-of act.2))
 
   pub first_found : (k : ℕ) (f : Move) → NoneActsBelow plan state t k → IsFirstOf plan state t k f → IsFirstBelow plan state t (k + 1) f
-  first_found k f none first =
-      ((k, omega arith, first_acts k f first),
-       below_more k f
-       (λ n other below act. absurd (no_act n other (λ s at. none n s below at) act))
-       (λ other act. behind_first k f other first act))
+  first_found k f none first = (
+    (k, omega arith, first_acts k f first),
+    below_more k f
+        (λ n other below act. absurd (no_act n other (λ s at. none n s below at) act))
+        (λ other act. behind_first k f other first act),
+  )
 
   pub first_kept_none : (k : ℕ) (m : Move) → IsFirstBelow plan state t k m →
       ((s : Scenario) → slice_get (scenarios plan state) k ≡ Some s → moves_of (users_of plan state) k s t ≡ []) → IsFirstBelow plan state t (k + 1) m
   first_kept_none k m first empty =
-      let below : first.0.0 < k = first.0.1 in
-      ((first.0.0, omega arith, first.0.2),
-       below_more k m first.1 (λ other act. absurd (no_act k other empty act)))
+      let below : first.0.0 < k = first.0.1 in (
+        (first.0.0, omega arith, first.0.2),
+        below_more k m first.1 (λ other act. absurd (no_act k other empty act)),
+      )
 
   pub first_kept : (k : ℕ) (m f : Move) → IsFirstBelow plan state t k m → IsFirstOf plan state t k f → is_before (place_of f) (place_of m) ≡ false →
       IsFirstBelow plan state t (k + 1) m
   first_kept k m f first other_first not_before =
-      let below : first.0.0 < k = first.0.1 in
-      ((first.0.0, omega arith, first.0.2),
-       below_more k m first.1 (λ other act. not_before_along other f m (behind_first k f other other_first act) not_before))
+      let below : first.0.0 < k = first.0.1 in (
+        (first.0.0, omega arith, first.0.2),
+        below_more k m first.1 (λ other act. not_before_along other f m (behind_first k f other other_first act) not_before),
+      )
 
   pub first_replaced : (k : ℕ) (m f : Move) → IsFirstBelow plan state t k m → IsFirstOf plan state t k f → is_before (place_of f) (place_of m) ≡ true →
       IsFirstBelow plan state t (k + 1) f
-  first_replaced k m f first other_first before =
-      ((k, omega arith, first_acts k f other_first),
-       below_more k f
-       (λ n other below act. not_before_along other m f (first.1 n other below act) (before_once (place_of f) (place_of m) before))
-       (λ other act. behind_first k f other other_first act))
+  first_replaced k m f first other_first before = (
+    (k, omega arith, first_acts k f other_first),
+    below_more k f
+        (λ n other below act. not_before_along other m f (first.1 n other below act) (before_once (place_of f) (place_of m) before))
+        (λ other act. behind_first k f other other_first act),
+  )
 
   stands_below : {A : Type 0} (n : ℕ) (x : A) (xs : List A) → slice_get xs n ≡ Some x → n < length xs
   stands_below n x [] h = absurd (cc)
@@ -158,7 +167,7 @@ module _ (plan : Plan) (state : State) (t : ℕ) where
   pub first_at_end : (k : ℕ) (m : Move) → length (scenarios plan state) ≤ k → IsFirstBelow plan state t k m → Contains (first_moves plan state t) m
   first_at_end k m all first =
       Contains-from_In m (is_first plan state t first.0.0 m first.0.2
-        (λ n other act. let below = stands_below n act.0 (scenarios plan state) act.1 in first.1 n other (omega arith) act))
+      (λ n other act. let below = stands_below n act.0 (scenarios plan state) act.1 in first.1 n other (omega arith) act))
 
   pub none_at_end : (k : ℕ) → length (scenarios plan state) ≤ k → NoneActsBelow plan state t k → NoneActs plan state t
   none_at_end k all none n s at = let below = stands_below n s (scenarios plan state) at in none n s (omega arith) at

@@ -11,11 +11,11 @@ use Rattle.ld_base.specs.declared.act.Outcome.{Outcome}
 use Rattle.ld_base.specs.declared.command.Command.{Command}
 use Rattle.ld_base.specs.declared.command.Command.TheVariants as commands
 use Rattle.ld_machine.specs.Plan.{Part, Plan}
-use Rattle.ld_machine.specs.State.{StartsNothing, Halted, Condition, Idle, Busy, HeldUser, Share, State, is_held, free_users, times_among, times_held}
+use Rattle.ld_machine.specs.State.{Halted, Condition, Idle, Busy, HeldUser, Share, State, is_held, free_users, times_among, times_held}
 use Rattle.ld_machine.specs.Commands.{stop_commanded_share, after_command}
 use Rattle.ld_machine.specs.Effect.{after_act, with_user, if_user, hold, put_condition, let_go, end_item, change_at, change_share, end_item_of}
 use Rattle.ld_machine.specs.Together.{holds}
-use Rattle.ld_machine.proofs.ListLemmas.{In, here, there, nothing_in, In-filter, filter-In, In-from_any, any-from_In, Contains-from_In, number_itself, both_true}
+use Rattle.ld_machine.proofs.ListLemmas.{In, here, there, nothing_in, In-filter, filter-In, In-from_any, Contains-from_In, number_itself}
 use Rattle.ld_machine.proofs.HolderLemmas.{or_parts}
 use Rattle.ld_machine.proofs.TurnLemmas.{among_there}
 use Rattle.ld_machine.proofs.FirstOfAllLemmas.{In-of, false_unless}
@@ -253,16 +253,17 @@ module _ (plan : Plan) (state : State) (thread t n : ℕ) where
       Contains (free_users (after_act plan state thread t (Take n user slot))) other ↔ (Contains (free_users state) other × (other ≢ user))
   take_free user slot other share at =
       let after = change_share state n (hold user slot) in
-      let held = held_hold state n user slot other share at in
-      (λ h.
-        let told = free_tells_all after other h in
-        let none = or_parts (user == other) (is_held state other) (sym held ∙ told.2) in
-        (free_is state other (told.0, told.1, none.1), apart_from user other none.0),
-       λ h.
-        let told = free_tells_all state other h.0 in
-        let another : (user == other) ≡ false = apart_tests user other (λ e. h.1 (sym e)) in
-        let none : is_held after other ≡ false = held ∙ rw another told.2 in
-        free_is after other (told.0, told.1, none))
+      let held = held_hold state n user slot other share at in (
+        λ h.
+            let told = free_tells_all after other h in
+            let none = or_parts (user == other) (is_held state other) (sym held ∙ told.2) in
+            (free_is state other (told.0, told.1, none.1), apart_from user other none.0),
+        λ h.
+            let told = free_tells_all state other h.0 in
+            let another : (user == other) ≡ false = apart_tests user other (λ e. h.1 (sym e)) in
+            let none : is_held after other ≡ false = held ∙ rw another told.2 in
+            free_is after other (told.0, told.1, none),
+      )
 
   pub grow_free : (user slot : ℕ) (share : Share) → slice_get state.shares n ≡ Some share → user ≡ state.made + 1 →
       free_users (after_act plan state thread t (Grow n user slot)) ≡ free_users state
@@ -277,10 +278,10 @@ module _ (plan : Plan) (state : State) (thread t n : ℕ) where
       let before : filter (λ u. not (is_held after u)) (range_with_len 1 state.made) ≡ free_users state =
       filter_alike (λ u. not (is_held after u)) (λ u. not (is_held state u)) (range_with_len 1 state.made)
       (λ u at_u.
-        let within = range_in u 1 state.made at_u in
-        let below : u < 1 + state.made = within.1 in
-        let another : (user == u) ≡ false = apart_tests user u (λ e. absurd (omega arith)) in
-        ap not (held u ∙ rw another refl)) in
+      let within = range_in u 1 state.made at_u in
+      let below : u < 1 + state.made = within.1 in
+      let another : (user == u) ≡ false = apart_tests user u (λ e. absurd (omega arith)) in
+      ap not (held u ∙ rw another refl)) in
       ap (λ k. filter (λ u. not (is_held after u)) (range_with_len 1 k)) one_more
       ∙ ap (λ us. filter (λ u. not (is_held after u)) us) (range_last 1 state.made)
       ∙ filter-append (λ u. not (is_held after u)) (range_with_len 1 state.made) ((1 + state.made) ∷ [])
@@ -302,14 +303,15 @@ module _ (plan : Plan) (state : State) (thread t n : ℕ) where
             let free : Contains (free_users after) user = free_is after user (from, made, itself) in
             (λ h. inr same, λ h. subst (λ u. Contains (free_users after) u) (sym same) free)
         | false ↦ λ e.
-            let another : other ≢ user = λ it. apart_from other user e (sym it) in
-            (λ h.
-              let facts = free_tells_all after other h in
-              inl (free_is state other (facts.0, facts.1, sym (apart another) ∙ facts.2)),
-             λ h. elim h [
-               | inl free ↦ let facts = free_tells_all state other free in free_is after other (facts.0, facts.1, apart another ∙ facts.2)
-               | inr it ↦ absurd (another it)
-             ])
+            let another : other ≢ user = λ it. apart_from other user e (sym it) in (
+              λ h.
+                  let facts = free_tells_all after other h in
+                  inl (free_is state other (facts.0, facts.1, sym (apart another) ∙ facts.2)),
+              λ h. elim h [
+                | inl free ↦ let facts = free_tells_all state other free in free_is after other (facts.0, facts.1, apart another ∙ facts.2)
+                | inr it ↦ absurd (another it)
+              ],
+            )
       ] in told refl
 
   pub start_free : (user item until : ℕ) → free_users (after_act plan state thread t (Start n user item until)) ≡ free_users state

@@ -1,21 +1,18 @@
 -- Who is free behind a step.
-use Rattle.std.proofs.Common.{Contains, ◌≡◌, ◌≢◌, ◌↔◌, ◌⊎◌, inl, inr, ◌≤◌, ◌<◌, ◌+◌, ◌==◌, ◌||◌, ◌∙◌, ℕ, zero, suc, Bool, true, false, List, [], ◌∷◌, Option, None, Some, arith, refl, sym, ap, subst, slice_get}
+use Rattle.std.proofs.Common.{Contains, ◌≡◌, ◌≢◌, ◌↔◌, ◌⊎◌, inl, inr, ◌==◌, ◌||◌, ◌∙◌, ℕ, zero, suc, Bool, true, false, List, [], ◌∷◌, Option, None, Some, refl, sym, ap, subst, slice_get}
 use Rattle.std.specs.List.{list_any}
 use Rattle.ld_base.specs.declared.act.Act.TheVariants.{Take, Grow}
-use Rattle.ld_base.specs.Stint.{StintView}
-use Rattle.ld_base.specs.Tally.{TallyView}
-use Rattle.ld_base.specs.declared.act.Outcome.{Outcome}
 use Rattle.ld_base.specs.declared.reply.Reply.{Reply}
 use Rattle.ld_machine.specs.Plan.{Plan}
-use Rattle.ld_machine.specs.State.{HeldUser, Share, State, is_idle, is_held, free_users, times_held}
-use Rattle.ld_machine.specs.Moves.{Answer, CountLate, StartOn, GrowAndStart, TakeAndStart, DropArrival, Move, StopScenario, ReleaseUser, TakeUser, AnswerArrival, StartIteration, DropIteration, CloseScenario}
+use Rattle.ld_machine.specs.State.{HeldUser, Share, State, is_idle, is_held, free_users}
+use Rattle.ld_machine.specs.Moves.{CountLate, StartOn, GrowAndStart, TakeAndStart, DropArrival, Move, StopScenario, ReleaseUser, TakeUser, AnswerArrival, StartIteration, DropIteration, CloseScenario}
 use Rattle.ld_machine.specs.Acts.{acts_of}
 use Rattle.ld_machine.specs.Effect.{count_entry, after_act}
-use Rattle.ld_machine.specs.Step.{return_of, performed}
+use Rattle.ld_machine.specs.Step.{performed}
 use Rattle.ld_machine.specs.Together.{IsActOf, HoldsOnce, holds, WellHeld, free_user_of, released_user_of}
-use Rattle.ld_machine.proofs.ListLemmas.{In, here, there, any-from_In, number_itself, some_not_none}
+use Rattle.ld_machine.proofs.ListLemmas.{any-from_In, number_itself, some_not_none}
 use Rattle.ld_machine.proofs.FirstOfAllLemmas.{In-of}
-use Rattle.ld_machine.proofs.FreeLemmas.{take_free, grow_free, release_free, start_free, end_free, return_free, stop_free, close_free}
+use Rattle.ld_machine.proofs.FreeLemmas.{take_free, grow_free, release_free, start_free, end_free, stop_free, close_free}
 use Rattle.ld_machine.proofs.BusyStepLemmas.{idle_of_act, grown_of_act, share_at}
 
 -- who is held once is held, by the share and so by some share
@@ -39,12 +36,13 @@ share_held state n user share at h = share_any (holds user) n share state.shares
 
 -- the same are free
 unchanged : (after before : List ℕ) (other : ℕ) → after ≡ before → Contains after other ↔ ((Contains before other × (◌≢◌ {A = Option ℕ} None (Some other))) ⊎ (◌≡◌ {A = Option ℕ} None (Some other)))
-unchanged after before other same =
-    (λ h. inl (subst (λ us. Contains us other) same h, λ e. some_not_none (sym e)),
-     λ h. elim h [
-       | inl free ↦ subst (λ us. Contains us other) (sym same) free.0
-       | inr e ↦ absurd (some_not_none (sym e))
-     ])
+unchanged after before other same = (
+  λ h. inl (subst (λ us. Contains us other) same h, λ e. some_not_none (sym e)),
+  λ h. elim h [
+    | inl free ↦ subst (λ us. Contains us other) (sym same) free.0
+    | inr e ↦ absurd (some_not_none (sym e))
+  ],
+)
 
 is_some_of : (a b : ℕ) → Some a ≡ Some b → b ≡ a
 is_some_of a b h = let same : a ≡ b = cc in sym same
@@ -55,12 +53,13 @@ module _ (plan : Plan) (state : State) (thread t : ℕ) (reply : Reply) (well : 
       Contains (free_users (after_act plan state thread t (Take k user slot))) other
       ↔ ((Contains (free_users state) other × (Some user ≢ Some other)) ⊎ (◌≡◌ {A = Option ℕ} None (Some other)))
   taken n k user slot other m act at =
-      let told = take_free plan state thread t k user slot other act.0.share at in
-      (λ h. let free = told.0 h in inl (free.0, λ e. free.1 (is_some_of user other e)),
-       λ h. elim h [
-         | inl free ↦ told.1 (free.0, λ e. free.1 (ap Some (sym e)))
-         | inr e ↦ absurd (some_not_none (sym e))
-       ])
+      let told = take_free plan state thread t k user slot other act.0.share at in (
+        λ h. let free = told.0 h in inl (free.0, λ e. free.1 (is_some_of user other e)),
+        λ h. elim h [
+          | inl free ↦ told.1 (free.0, λ e. free.1 (ap Some (sym e)))
+          | inr e ↦ absurd (some_not_none (sym e))
+        ],
+      )
 
   pub free_behind_act : (n : ℕ) (m : Move) (other : ℕ) → IsActOf plan state t n m →
       Contains (free_users (performed plan state thread t reply (acts_of m)).state) other
@@ -71,9 +70,10 @@ module _ (plan : Plan) (state : State) (thread t : ℕ) (reply : Reply) (well : 
       let once = idle_of_act plan state t n (ReleaseUser k user) act user well refl in
       let held = once_holds is_idle act.0.share user once in
       let made = (well user).1 (share_held state k user act.0.share at held) in
-      let told = release_free plan state thread t k user other act.0.share at held (well user).0 made.0 made.1 in
-      (λ h. elim (told.0 h) [ inl free ↦ inl (free, λ e. some_not_none (sym e)) | inr same ↦ inr (ap Some (sym same)) ],
-       λ h. elim h [ inl free ↦ told.1 (inl free.0) | inr e ↦ told.1 (inr (is_some_of user other e)) ])
+      let told = release_free plan state thread t k user other act.0.share at held (well user).0 made.0 made.1 in (
+        λ h. elim (told.0 h) [ inl free ↦ inl (free, λ e. some_not_none (sym e)) | inr same ↦ inr (ap Some (sym same)) ],
+        λ h. elim h [ inl free ↦ told.1 (inl free.0) | inr e ↦ told.1 (inr (is_some_of user other e)) ],
+      )
   free_behind_act n (TakeUser k user slot) other act =
       taken n k user slot other (TakeUser k user slot) act (share_at plan state thread t reply well n (TakeUser k user slot) act)
   free_behind_act n (StartIteration k user item until) other act = unchanged _ (free_users state) other (start_free plan state thread t k user item until)
@@ -86,7 +86,7 @@ module _ (plan : Plan) (state : State) (thread t : ℕ) (reply : Reply) (well : 
       let m : Move = AnswerArrival k due item until (GrowAndStart user slot) in
       unchanged _ (free_users state) other
       (start_free plan (count_entry (after_act plan state thread t (Grow k user slot))) thread t k user item until
-       ∙ grow_free plan state thread t k user slot act.0.share (share_at plan state thread t reply well n m act) (grown_of_act plan state t n m act user refl))
+      ∙ grow_free plan state thread t k user slot act.0.share (share_at plan state thread t reply well n m act) (grown_of_act plan state t n m act user refl))
   free_behind_act n (AnswerArrival k due item until (TakeAndStart user slot)) other act =
       let m : Move = AnswerArrival k due item until (TakeAndStart user slot) in
       let told = taken n k user slot other m act (share_at plan state thread t reply well n m act) in

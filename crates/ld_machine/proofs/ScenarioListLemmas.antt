@@ -1,19 +1,16 @@
 -- The scenarios as they stand behind a change of one share.
-use Rattle.std.proofs.Common.{◌≡◌, ◌≢◌, ◌+◌, ◌∙◌, ◌++◌, ◌==◌, ℕ, zero, suc, Bool, true, false, cond, List, [], ◌∷◌, length, Option, None, Some, map, set, arith, refl, sym, ap, subst, slice_get}
+use Rattle.std.proofs.Common.{◌≡◌, ◌∙◌, ℕ, zero, suc, List, [], ◌∷◌, length, Option, None, Some, map, set, arith, refl, sym, ap, slice_get}
 use Rattle.std.specs.Option.{option_map_or}
-use Rattle.std.specs.List.{list_any}
-use Rattle.std.proofs.lemmas.Grind.{common_steps}
 use Rattle.ld_base.specs.declared.act.Act.{Act}
 use Rattle.ld_base.specs.declared.act.Act.TheVariants.{Take, Grow, Start, Drop, Late, Return, Release, Stop, Close, Control}
 use Rattle.ld_base.specs.declared.command.Command.TheVariants as commands
 use Rattle.ld_base.specs.declared.entry.Entry.{Entry}
 use Rattle.ld_machine.specs.Plan.{Part, Plan}
-use Rattle.ld_machine.specs.State.{Condition, Idle, Busy, Share, Controls, State, opening, opening_share}
+use Rattle.ld_machine.specs.State.{Busy, Share, Controls, State, opening_share}
 use Rattle.ld_machine.specs.Scenario.{Scenario}
-use Rattle.ld_machine.specs.Moves.{scenarios_with, scenarios}
+use Rattle.ld_machine.specs.Moves.{scenarios_with}
 use Rattle.ld_machine.specs.Commands.{stop_commanded_share}
 use Rattle.ld_machine.specs.Effect.{put_condition, end_item, change_at, change_share, end_item_of, after_act, after_entry, after_entries}
-use Rattle.ld_machine.proofs.ItemLemmas.{stands_share}
 
 -- the changed share is set in its place
 pub change_sets : (n : ℕ) (change : Share → Share) (share : Share) (shares : List Share) → slice_get shares n ≡ Some share →

@@ -1,13 +1,11 @@
 -- No step holds a user twice, or one that wasn't made.
-use Rattle.std.proofs.Common.{Contains, ◌≡◌, ◌≤◌, ◌<◌, ◌+◌, ◌==◌, ◌∙◌, ◌&&◌, ℕ, zero, suc, Bool, true, false, cond, List, [], ◌∷◌, Option, None, Some, map, arith, refl, sym, ap, subst, inl, inr, slice_get}
+use Rattle.std.proofs.Common.{◌≡◌, ◌≤◌, ◌+◌, ◌==◌, ◌∙◌, ◌&&◌, ℕ, Bool, true, false, cond, List, [], ◌∷◌, Option, None, Some, map, arith, refl, sym, ap, subst, inl, inr, slice_get}
 use Rattle.std.specs.Option.{option_map_or}
 use Rattle.std.specs.List.{range_with_len}
 use Rattle.std.proofs.Math.Decide.{dec_lt}
-use Rattle.std.proofs.lemmas.Bool.{true≢false}
 use Rattle.std.proofs.lemmas.Grind.{common_steps}
-use Rattle.ld_base.specs.Tally.{TallyView}
 use Rattle.ld_base.specs.declared.act.Act.{Act}
-use Rattle.ld_base.specs.declared.act.Act.TheVariants.{Take, Grow, Start, Drop, Late, Return, Release, Stop, Close, Control}
+use Rattle.ld_base.specs.declared.act.Act.TheVariants.{Take, Grow, Start, Drop, Late, Release, Stop, Close, Control}
 use Rattle.ld_base.specs.declared.ask.Ask.{Ask}
 use Rattle.ld_base.specs.declared.ask.Ask.TheVariants as asks
 use Rattle.ld_base.specs.declared.entry.Entry.{Entry}
@@ -28,11 +26,11 @@ use Rattle.ld_machine.specs.Samples.{tally_fits}
 use Rattle.ld_machine.specs.History.{adds_one, adds_two, are_steps, ask_for}
 use Rattle.ld_machine.specs.Step.{Result, answered, performed, entries_of, move_result, open_results, is_out, outcome_of, return_of, check_reply, look_reply, results, IsStep}
 use Rattle.ld_machine.specs.Together.{WellHeld}
-use Rattle.ld_machine.proofs.ListLemmas.{In, here, there, nothing_in, In-filter, In-map, In-one, in_two, both_true, some_true, some_not_none}
+use Rattle.ld_machine.proofs.ListLemmas.{In, here, nothing_in, In-filter, In-map, In-one, in_two, both_true, some_true, some_not_none}
 use Rattle.ld_machine.proofs.SourceLemmas.{Source, by_stop, by_release, by_take, by_arrival, by_start, by_drop, by_close, source_of, grow_answer, take_answer}
-use Rattle.ld_machine.proofs.StepLemmas.{Wrote, first_enabled}
+use Rattle.ld_machine.proofs.StepLemmas.{first_enabled}
 use Rattle.ld_machine.proofs.DropLemmas.{acts_back}
-use Rattle.ld_machine.proofs.HolderLemmas.{Holds, Gains, gained, gained_hit, hit, hit_apart, times_after, none_held, nothing_gained, start_gains, wrote_gains, entry_holds, opening_holds}
+use Rattle.ld_machine.proofs.HolderLemmas.{Holds, Gains, gained, gained_hit, times_after, none_held, nothing_gained, wrote_gains, entry_holds, opening_holds}
 use Rattle.ld_machine.proofs.ResultLemmas.{results_leave, adds_tells}
 use Rattle.ld_machine.proofs.FirstOfAllLemmas.{In-of, false_unless}
 use Rattle.ld_machine.proofs.FreeLemmas.{range_in, any_times}
@@ -203,9 +201,9 @@ module _ (plan : Plan) (state : State) (thread t : ℕ) (kept : Kept state) wher
 -- ---- well held
 
 pub kept_well : (state : State) → Kept state → WellHeld state
-kept_well state kept user =
-    (kept.holds.once user,
-     λ held.
+kept_well state kept user = (
+  kept.holds.once user,
+  λ held.
       let some : 1 ≤ times_held user state.shares = any_times user state.shares held in
       let from : 1 ≤ user = elim (dec_lt 0 user) [
         | yes above ↦ omega arith
@@ -218,7 +216,8 @@ kept_well state kept user =
         | yes above ↦ let none = kept.holds.unmade user above in absurd (omega arith)
         | no notabove ↦ omega arith
       ] in
-      (from, to))
+      (from, to),
+)
 
 pub well_kept : (state : State) → WellHeld state → Kept state
 well_kept state well = record {

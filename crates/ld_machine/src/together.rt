@@ -12,9 +12,9 @@ ghost use Rattle.ld_base.specs.declared.entry.Entry.{Entry};
 ghost use Rattle.ld_base.specs.declared.reply.Reply.{Reply};
 ghost use Rattle.ld_base.specs.declared.reply.Reply.TheVariants.{Wait, Over};
 ghost use Rattle.ld_machine.specs.Plan.{Part, Plan};
-ghost use Rattle.ld_machine.specs.State.{Level, opening, Condition, Idle, Busy, HeldUser, Share, State, is_idle, is_busy, busy_users, busy_count, is_held, free_users, times_among, times_held, all_closed};
+ghost use Rattle.ld_machine.specs.State.{Level, Runs, opening, Condition, Idle, Busy, HeldUser, Share, State, is_idle, is_busy, busy_users, busy_count, is_held, free_users, times_among, times_held, all_closed};
 ghost use Rattle.ld_machine.specs.Scenario.{Scenario};
-ghost use Rattle.ld_machine.specs.Moves.{Move, TakeUser, users_of, moves_of, scenarios};
+ghost use Rattle.ld_machine.specs.Moves.{Move, TakeUser, StartIteration, CloseScenario, users_of, moves_of, scenarios};
 ghost use Rattle.ld_machine.specs.Order.{is_before, place_of, first_among, first_moves};
 ghost use Rattle.ld_machine.specs.Acts.{acts_of, made_busy, scenario_of};
 ghost use Rattle.ld_machine.specs.Room.{script_room, busy_room};
@@ -37,15 +37,15 @@ pub fn order_of_places()
         is_before (place_of b) (place_of c) ≡ false → is_before (place_of a) (place_of c) ≡ false }
 {}
 
-/// The first acts are those of some scenario that no act of any scenario is before. To see that an
-/// act is one, it is enough to know for each act of a scenario a further one that it isn't before and
-/// that isn't before the first: as the best of its scenario.
+/// The first acts are those of some scenario that no act of any scenario is before. To see that m is
+/// one, it is enough to know for each act of a scenario a best one, as the first of its scenario: the
+/// act isn't before the best one, and the best one isn't before m.
 pub fn first_of_all()
     ensures are { (plan : Plan) (state : State) (t : ℕ) (m : Move) →
         Contains (first_moves plan state t) m ↔ (((n : ℕ) × IsActOf plan state t n m) × NoneBefore plan state t m) }
     ensures by_each { (plan : Plan) (state : State) (t n : ℕ) (m : Move) → IsActOf plan state t n m →
         ((k : ℕ) (other : Move) → IsActOf plan state t k other →
-         (best : Move) × (is_before (place_of other) (place_of best) ≡ false) × (is_before (place_of best) (place_of m) ≡ false)) →
+        (best : Move) × (is_before (place_of other) (place_of best) ≡ false) × (is_before (place_of best) (place_of m) ≡ false)) →
         Contains (first_moves plan state t) m }
 {}
 
@@ -96,13 +96,15 @@ pub fn nothing_first()
         results plan state thread asks.Act t ≡ answered state (Wait (wait_moment plan state t)) ∷ [] }
 {}
 
-/// Where all scenarios are closed, an ask for an act gives `Over` and nothing else; all are closed
-/// exactly where each is, and then none may perform an act.
+/// Where all scenarios are closed, an ask for an act gives `Over` and nothing else. All are closed
+/// exactly where each is, so not where one is open, and not where one may perform an act.
 pub fn all_over()
     ensures over { (plan : Plan) (state : State) (thread t : ℕ) → all_closed state ≡ true →
         results plan state thread asks.Act t ≡ answered state Over ∷ [] }
     ensures each { (state : State) → (all_closed state ≡ true) ↔ ((n : ℕ) (share : Share) → slice_get state.shares n ≡ Some share → share.closed ≡ true) }
-    ensures nothing { (plan : Plan) (state : State) (t n : ℕ) (m : Move) → IsActOf plan state t n m → all_closed state ≡ false }
+    ensures open_one { (state : State) (n : ℕ) (share : Share) → slice_get state.shares n ≡ Some share → share.closed ≡ false →
+        all_closed state ≡ false }
+    ensures acts { (plan : Plan) (state : State) (t n : ℕ) (m : Move) → IsActOf plan state t n m → all_closed state ≡ false }
 {}
 
 /// What a first act gives is among the results of an ask for an act.
@@ -170,9 +172,9 @@ pub fn least_until_steps()
         least_until_in t (share ∷ rest) ≡ lesser (least_until t share.held) (least_until_in t rest) }
 {}
 
-/// What a change of one share does to its busy users: to hold a user, to let an idle one go and to end
-/// an item leaves them; of a user held once an idle one that becomes busy is one more, and a busy one
-/// that becomes idle one less.
+/// What a change of a share does to its busy users. To hold a user, to let go of an idle one held once,
+/// to end an item, to set the level and to close leaves them. Of users held once, an idle one that
+/// becomes busy is one more, and a busy one that becomes idle one less.
 pub fn busy_in_share()
     ensures held { (user slot : ℕ) (share : Share) → busy_users (hold user slot share) ≡ busy_users share }
     ensures let_go { (user : ℕ) (share : Share) → HoldsOnce is_idle share user → busy_users (let_go user share) ≡ busy_users share }
@@ -371,9 +373,10 @@ pub fn scenarios_under_change()
     ensures count { (plan : Plan) (state : State) (entries : List Entry) → length (after_entries plan state entries).shares ≡ length state.shares }
 {}
 
-/// Two scenarios of two users each: at the opening the first takes a user for its slot 0; behind its
-/// two Starts nothing is enabled, the end of the first is the next candidate, both users are busy and
-/// none is free; behind a Return one of them is held once, idle.
+/// Two scenarios of two users each. At the opening the first takes a user for its slot 0. Behind its
+/// two Starts nothing is enabled, its end is the next candidate, both users are busy and none is free;
+/// behind a Return one is busy. When the second holds both, its Starts come before the Close of the
+/// first, which is enabled too. A share that holds one idle user holds it once.
 pub fn two_together()
     ensures opened { first_moves two_plan (opening two_plan) 0 ≡ TakeUser 0 1 0 ∷ TakeUser 0 2 0 ∷ [] }
     ensures nothing { first_moves two_plan (state_after two_plan (take 4 two_done)) 1 ≡ [] }
@@ -381,7 +384,11 @@ pub fn two_together()
     ensures until { least_until_in 0 (state_after two_plan (take 4 two_done)).shares ≡ Some 15000000000 }
     ensures next { next_candidate two_plan (state_after two_plan (take 4 two_done)) 0 ≡ Some 10000000000 }
     ensures busy { busy_count (state_after two_plan (take 4 two_done)) ≡ 2 }
-    ensures free_first { free_users (opening two_plan) ≡ 1 ∷ 2 ∷ [] }
-    ensures free_then { free_users (state_after two_plan (take 4 two_done)) ≡ [] }
-    ensures busy_left { busy_count (state_after two_plan (take 5 two_done)) ≡ 1 }
+    ensures free { free_users (opening two_plan) ≡ 1 ∷ 2 ∷ [] }
+    ensures taken { free_users (state_after two_plan (take 4 two_done)) ≡ [] }
+    ensures returned { busy_count (state_after two_plan (take 5 two_done)) ≡ 1 }
+    ensures second { first_moves two_plan (state_after two_plan (take 14 two_done)) 15000000000
+        ≡ StartIteration 1 1 0 46000000000 ∷ StartIteration 1 2 1 46000000000 ∷ [] }
+    ensures close { IsActOf two_plan (state_after two_plan (take 14 two_done)) 15000000000 0 (CloseScenario 0) }
+    ensures idle { HoldsOnce is_idle (record { level = Runs; closed = false; held = record { user = 1; slot = 0; condition = Idle } ∷ []; ended = [] }) 1 }
 {}

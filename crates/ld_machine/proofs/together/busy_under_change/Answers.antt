@@ -1,5 +1,4 @@
 use Rattle.std.proofs.Common.{ap}
-use Rattle.ld_machine.specs.State.{State}
 use Rattle.ld_machine.proofs.BusyLemmas.{busy_share, busy_same, absent_share}
 use Rattle.ld_machine.proofs.together.busy_under_change.Goals as goal
 
