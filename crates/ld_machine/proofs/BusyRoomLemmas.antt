@@ -31,9 +31,6 @@ room_of s = length (busy_users s.share) * s.part.sample_room
 abbrev part_room : List Part → ℕ → ℕ
 part_room parts n = option_map_or (λ (part : Part). part.sample_room) (slice_get parts n) 0
 
-swap_ends : (a s b : ℕ) → (a + s) + b ≡ (b + s) + a
-swap_ends a s b = omega arith
-
 room_at : (controls : Controls) (parts : List Part) (shares : List Share) (n : ℕ) (change : Share → Share) (share : Share) → slice_get shares n ≡ Some share →
     sum_by room_of (scenarios_with controls parts (change_at n change shares)) + length (busy_users share) * part_room parts n
     ≡ sum_by room_of (scenarios_with controls parts shares) + length (busy_users (change share)) * part_room parts n

@@ -4,6 +4,7 @@ use Rattle.std.specs.Prelude.{option_to_list}
 use Rattle.std.specs.Option.{option_map_or}
 use Rattle.std.specs.List.{cons_option}
 use Rattle.std.proofs.Math.Decide.{dec_lt}
+use Rattle.std.proofs.lemmas.List.{append-nil}
 use Rattle.std.proofs.lemmas.Grind.{common_steps, flat_map-append}
 use Rattle.std.proofs.lemmas.List.Elements.{filter-append, filter_map-append}
 use Rattle.ld_machine.specs.Plan.{Part, Plan}
@@ -136,14 +137,10 @@ above_one t x =
 
 -- ---- over a list, step by step
 
-append_nothing : {A : Type 0} (xs : List A) → xs ++ [] ≡ xs
-append_nothing [] = refl
-append_nothing (x ∷ xs) = rw (append_nothing xs) refl
-
 pub flat-snoc : {A : Type 0} (t : ℕ) (f : A → List ℕ) (front : List A) (x : A) →
     least_above t (flat_map f (front ++ x ∷ [])) ≡ lesser (least_above t (flat_map f front)) (least_above t (f x))
 flat-snoc t f front x =
-    ap (least_above t) (flat_map-append f front (x ∷ []) ∙ ap (λ ys. flat_map f front ++ ys) (append_nothing (f x)))
+    ap (least_above t) (flat_map-append f front (x ∷ []) ∙ ap (λ ys. flat_map f front ++ ys) (append-nil (f x)))
     ∙ above-append t (flat_map f front) (f x)
 
 pub flat-cons : {A : Type 0} (t : ℕ) (f : A → List ℕ) (x : A) (rest : List A) →

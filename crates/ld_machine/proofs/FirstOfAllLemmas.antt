@@ -27,6 +27,10 @@ pub false_unless : (b : Bool) → (b ≡ true → ⊥) → b ≡ false
 false_unless false h = refl
 false_unless true h = absurd (h refl)
 
+pub is_not : (b : Bool) → not b ≡ true → b ≡ false
+is_not false h = refl
+is_not true h = absurd (cc)
+
 -- of places of acts, not to be before goes on from one to the next
 pub not_before_along : (a b c : Move) → is_before (place_of a) (place_of b) ≡ false → is_before (place_of b) (place_of c) ≡ false →
     is_before (place_of a) (place_of c) ≡ false

@@ -11,13 +11,9 @@ use Rattle.ld_machine.specs.Order.{is_before, place_of, first_among, first_moves
 use Rattle.ld_machine.specs.Together.{IsActOf, NoneActs, IsFirstOf, IsFirstBelow, NoneActsBelow}
 use Rattle.ld_machine.proofs.ListLemmas.{In, nothing_in, In-filter, filter-In, In-from_any, any-from_In, Contains-from_In}
 use Rattle.ld_machine.proofs.OrderLemmas.{is_beaten, unbeaten}
-use Rattle.ld_machine.proofs.FirstOfAllLemmas.{false_unless, not_before_along, before_once, In-of, is_first, first_is, first_by_each}
+use Rattle.ld_machine.proofs.FirstOfAllLemmas.{false_unless, is_not, not_before_along, before_once, In-of, is_first, first_is, first_by_each}
 
 -- ---- of a list
-
-is_not : (b : Bool) → not b ≡ true → b ≡ false
-is_not false h = refl
-is_not true h = absurd (cc)
 
 not_beaten : (moves : List Move) (m other : Move) → is_beaten moves m ≡ false → In other moves → is_before (place_of other) (place_of m) ≡ false
 not_beaten moves m other none at = false_unless (is_before (place_of other) (place_of m)) (λ before.

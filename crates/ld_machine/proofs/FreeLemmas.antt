@@ -3,6 +3,7 @@ use Rattle.std.proofs.Common.{Contains, ◌≡◌, ◌≢◌, ◌↔◌, ◌⊎�
 use Rattle.std.specs.Option.{option_map_or}
 use Rattle.std.specs.List.{list_any, range_with_len}
 use Rattle.std.proofs.lemmas.Bool.{true≢false}
+use Rattle.std.proofs.lemmas.List.{append-nil}
 use Rattle.std.proofs.lemmas.Grind.{common_steps}
 use Rattle.std.proofs.lemmas.List.Elements.{filter-append}
 use Rattle.ld_base.specs.Tally.{TallyView}
@@ -18,7 +19,7 @@ use Rattle.ld_machine.specs.Together.{holds}
 use Rattle.ld_machine.proofs.ListLemmas.{In, here, there, nothing_in, In-filter, filter-In, In-from_any, Contains-from_In, number_itself}
 use Rattle.ld_machine.proofs.HolderLemmas.{or_parts}
 use Rattle.ld_machine.proofs.TurnLemmas.{among_there}
-use Rattle.ld_machine.proofs.FirstOfAllLemmas.{In-of, false_unless}
+use Rattle.ld_machine.proofs.FirstOfAllLemmas.{In-of, false_unless, is_not}
 use Rattle.ld_machine.proofs.BusyLemmas.{same_number, held_end_item, held_stop}
 
 -- ---- tests
@@ -207,10 +208,6 @@ in_range x a (suc n) from to =
       | false ↦ λ e. let another : a ≢ x = (λ it. true≢false (sym (subst (λ z. (a == z) ≡ true) it (number_itself a)) ∙ e)) in there (in_range x (a + 1) n (omega arith) (omega arith))
     ] in found refl
 
-is_not : (b : Bool) → not b ≡ true → b ≡ false
-is_not false h = refl
-is_not true h = absurd (cc)
-
 pub free_tells_all : (state : State) (user : ℕ) → Contains (free_users state) user → (1 ≤ user) × (user ≤ state.made) × (is_held state user ≡ false)
 free_tells_all state user h =
     let kept = In-filter (λ u. not (is_held state u)) user (range_with_len 1 state.made) (In-of h) in
@@ -240,10 +237,6 @@ range_last a (suc n) =
     ap (λ xs. a ∷ xs) (range_last (a + 1) n ∙ ap (λ x. range_with_len (a + 1) n ++ x ∷ []) e)
 
 -- ---- acts
-
-append_nothing : {A : Type 0} (xs : List A) → xs ++ [] ≡ xs
-append_nothing [] = refl
-append_nothing (x ∷ xs) = rw (append_nothing xs) refl
 
 apart_from : (a b : ℕ) → (a == b) ≡ false → b ≢ a
 apart_from a b e same = grind (arith, common_steps)
@@ -286,7 +279,7 @@ module _ (plan : Plan) (state : State) (thread t n : ℕ) where
       ∙ ap (λ us. filter (λ u. not (is_held after u)) us) (range_last 1 state.made)
       ∙ filter-append (λ u. not (is_held after u)) (range_with_len 1 state.made) ((1 + state.made) ∷ [])
       ∙ ap (λ us. filter (λ u. not (is_held after u)) (range_with_len 1 state.made) ++ us) none_last
-      ∙ append_nothing (filter (λ u. not (is_held after u)) (range_with_len 1 state.made))
+      ∙ append-nil (filter (λ u. not (is_held after u)) (range_with_len 1 state.made))
       ∙ before
 
   pub release_free : (user other : ℕ) (share : Share) → slice_get state.shares n ≡ Some share → holds user share ≡ true → times_held user state.shares ≤ 1 →

@@ -213,7 +213,7 @@ wrote_gains plan state thread t entries holds w act at =
 
 -- ---- what an entry leaves
 
-pub hit_apart : (one user : ℕ) → one < user → hit one user ≡ 0
+hit_apart : (one user : ℕ) → one < user → hit one user ≡ 0
 hit_apart one user h = grind (arith, common_steps)
 
 gain_once : (state : State) (user : ℕ) (o : Option ℕ) → ((one : ℕ) → o ≡ Some one → times_held one state.shares ≡ 0) → times_held user state.shares ≤ 1 →
@@ -260,7 +260,7 @@ one_gains plan state one holds h =
     unasked_gains (Grow n user slot) h = absurd (cc)
     unasked_gains _ h = refl
 
-pub start_gains : (act : Act) → is_start act ≡ true → gained act ≡ None
+start_gains : (act : Act) → is_start act ≡ true → gained act ≡ None
 start_gains (Start n user item until) h = refl
 start_gains _ h = absurd (cc)
 
