@@ -90,7 +90,7 @@ gained_hit None user = 0
 gained_hit (Some one) user = hit one user
 
 -- behind an entry a user is held no more times than before, but for one that the entry takes or grows
-times_after : (plan : Plan) (state : State) (at thread t : ℕ) (act : Act) (user : ℕ) →
+pub times_after : (plan : Plan) (state : State) (at thread t : ℕ) (act : Act) (user : ℕ) →
     times_held user (after_entry plan state (record { turn = at; thread = thread; act = act; reading = t })).shares ≤ times_held user state.shares + gained_hit (gained act) user
 times_after plan state at thread t (Take n one slot) user =
     times-change user (hit one user) n (hold one slot) state.shares (λ share. let e = times-with_user user (record { user = one; slot = slot; condition = Idle }) share.held in omega arith)
@@ -126,7 +126,7 @@ none_among user (g ∷ rest) h =
     let later = none_among user rest parts.1 in
     rw (parts.0, later) (omega arith)
 
-none_held : (user : ℕ) (shares : List Share) → list_any (λ (share : Share). list_any (λ (h : HeldUser). h.user == user) share.held) shares ≡ false → times_held user shares ≡ 0
+pub none_held : (user : ℕ) (shares : List Share) → list_any (λ (share : Share). list_any (λ (h : HeldUser). h.user == user) share.held) shares ≡ false → times_held user shares ≡ 0
 none_held user [] h = refl
 none_held user (share ∷ rest) h =
     let parts = or_parts (list_any (λ (h : HeldUser). h.user == user) share.held) _ h in
@@ -159,7 +159,7 @@ pub record Holds (state : State) : Type 0 where
 abbrev pub Gains : State → Act → Type 0
 Gains state act = (one : ℕ) → gained act ≡ Some one → (times_held one state.shares ≡ 0) × (one ≤ state.made + grows act)
 
-nothing_gained : (state : State) (act : Act) → gained act ≡ None → Gains state act
+pub nothing_gained : (state : State) (act : Act) → gained act ≡ None → Gains state act
 nothing_gained state act none one h = absurd (some_not_none (sym h ∙ none))
   where
     some_not_none : {x : ℕ} → Some x ≡ None → ⊥

@@ -17,3 +17,13 @@ pub mod SettledLemmas
 pub mod LegalLemmas
 pub mod LaterLemmas
 pub mod ShareEffectLemmas
+pub mod FirstOfAllLemmas
+pub mod FirstOfEachLemmas
+pub mod CandidateLemmas
+pub mod BusyLemmas
+pub mod FreeLemmas
+pub mod WellHeldLemmas
+pub mod BusyStepLemmas
+pub mod FreeStepLemmas
+pub mod ScenarioListLemmas
+pub mod BusyRoomLemmas

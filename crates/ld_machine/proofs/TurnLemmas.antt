@@ -76,7 +76,7 @@ split_held user item n [] = refl
 split_held user item zero (share ∷ rest) = let now = split_among user item share.held in omega arith
 split_held user item (suc n) (share ∷ rest) = let later = split_held user item n rest in omega arith
 
-among_there : (user : ℕ) (h : HeldUser) {held : List HeldUser} → In h held → (h.user == user) ≡ true → 1 ≤ times_among user held
+pub among_there : (user : ℕ) (h : HeldUser) {held : List HeldUser} → In h held → (h.user == user) ≡ true → 1 ≤ times_among user held
 among_there user h here e = rw e (omega arith)
 among_there user h (there more) e = let later = among_there user h more e in omega arith
 

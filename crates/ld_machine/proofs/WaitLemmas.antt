@@ -258,7 +258,7 @@ enabled_same plan state t x agree =
     (λ c of_it. agree c (In-left c (flat_map untils state.shares) (flat_map-In scenario_moments p.1 c there_is of_it))))
 
 -- the least of some moments is there, and no later than any
-least_below : (c : ℕ) {moments : List ℕ} → In c moments → (m : ℕ) × (least_of moments ≡ Some m) × (m ≤ c)
+pub least_below : (c : ℕ) {moments : List ℕ} → In c moments → (m : ℕ) × (least_of moments ≡ Some m) × (m ≤ c)
 least_below c (here {xs = xs}) =
     let P : Option ℕ → Type 0 = λ o. (m : ℕ) × (Some (option_map_or (min c) o c) ≡ Some m) × (m ≤ c) in
     elim (least_of xs) as P [ None ↦ (c, refl, omega arith) | Some k ↦ (min c k, refl, omega arith) ]

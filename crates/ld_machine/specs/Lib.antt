@@ -26,3 +26,4 @@ pub mod Slots
 pub mod ShareEffect
 pub mod Wishes
 pub mod WishExamples
+pub mod Together

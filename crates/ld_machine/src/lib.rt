@@ -8,6 +8,7 @@
 mod examples;
 mod further_examples;
 mod laws;
+mod together;
 mod wish_examples;
 
 pub use examples::{
@@ -20,7 +21,15 @@ pub use further_examples::{
 };
 pub use laws::{
     added_by_steps, always_answered, behind_a_stop, dropped_and_late, first_acts, fitting_tallies,
-    fronts, goes_on, held_once, items_once, same_history, settled_items, shares_after_acts, slots_once,
-    starts_alternate, steps_leave, waits,
+    fronts, goes_on, held_once, items_once, same_history, settled_items, shares_after_acts,
+    slots_once, starts_alternate, steps_leave, waits,
+};
+pub use together::{
+    all_over, busy_behind_acts, busy_behind_steps, busy_in_share, busy_under_change, first_of_all,
+    first_of_each, first_of_list, first_performed, first_step_by_step, free_behind_acts,
+    free_behind_steps, free_where, held_in_share, held_under_change, least_above_reading,
+    least_candidate, least_moment_steps, least_until_steps, lesser_of_moments,
+    next_candidate_of_parts, nothing_first, order_of_places, room_behind_steps, room_under_change,
+    scenarios_stand, scenarios_under_change, two_together, users_of_acts, well_held,
 };
 pub use wish_examples::{wishes, wishes_at_the_end};
