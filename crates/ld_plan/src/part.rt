@@ -112,7 +112,14 @@ impl Part {
         self.begin.saturating_add(self.arrivals.moment(item))
     }
 
-    // The scenario's numbers.
+    // How long its iterations may last behind its end.
+    pub fn grace(&self) -> u64
+        ensures { result ≡ self.now.part.grace }
+    {
+        self.grace
+    }
+
+    // The numbers of the scenario.
     pub fn row(&self) -> Row
         ensures { result ≡ row_of self.now.part }
     {

@@ -174,6 +174,14 @@ impl Plan {
         self.part(scenario).row()
     }
 
+    /// How long a scenario's iterations may last behind its end, in nanoseconds.
+    pub fn grace(&self, scenario: u16) -> u64
+        requires { scenario < length self.now.plan.parts }
+        ensures { IsSomeAnd (slice_get self.now.plan.parts scenario) (λ part. result ≡ part.grace) }
+    {
+        self.part(scenario).grace()
+    }
+
     /// A ticker of the arrivals that the instance owns of a scenario, of which none was given.
     ///
     /// Fails where there is no memory for them.

@@ -1,6 +1,6 @@
 ghost use Rattle.std.specs.Prelude.{◌≡◌, ◌<◌, ◌≤◌, ℕ, IfOk, IfErr, IfSome, IfNone, IsTrue, Some, is_some, true, false, [], ◌∷◌, ◌++◌, option_to_list, filter, nat_lt, option_map, length};
 ghost use Rattle.ld_base.specs.declared.act.Act.TheVariants as acts;
-ghost use Rattle.ld_machine.specs.Scenario.{Scenario, first_of, runs, may_take, may_release, may_close, due_arrival, least_open_arrival, least_open_item};
+ghost use Rattle.ld_machine.specs.Scenario.{Scenario, first_of, runs, may_take, may_release, may_close, may_stop, due_arrival, least_open_arrival, least_open_item};
 ghost use Rattle.ld_machine.specs.Moves.{Users, releases, takes};
 ghost use Rattle.ld_machine.specs.Plan.{due_moment};
 ghost use Rattle.ld_machine.specs.Wait.{least_of, scenario_moments};
@@ -179,6 +179,18 @@ impl RatesState {
         ensures { result ≡ self.now.closed }
     {
         self.closed
+    }
+
+    /// Whether the scenario may be halted: it is open, and its grace is over since a stop was commanded.
+    pub fn may_stop(&self, reading: u64) -> bool
+        ensures { (s : Scenario) → Shows self.now s → result ≡ may_stop s reading }
+    {
+        match self.level {
+            Level::StartsNothing { commanded } => {
+                !self.closed && commanded.saturating_add(self.grace) <= reading
+            }
+            Level::Runs | Level::Halted => false,
+        }
     }
 
     /// The least open item, or None exactly where none is open.

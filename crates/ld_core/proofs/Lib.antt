@@ -1,0 +1,9 @@
+pub mod HeldLemmas
+pub mod BusyLemmas
+pub mod RangeLemmas
+pub mod PartsLemmas
+pub mod StateLemmas
+pub mod BehindLemmas
+pub mod FoundLemmas
+pub mod CoreLemmas
+pub mod OpeningLemmas

@@ -1,0 +1,15 @@
+-- What holds of a core's fields.
+use Rattle.std.specs.Prelude.{◌≡◌, ◌≤◌}
+use Rattle.ld_machine.specs.Effect.{state_after}
+use Rattle.ld_core.specs.CoreView.{CoreView}
+use Rattle.ld_core.specs.Shows.{Shows}
+use Rattle.ld_core.specs.declared.core.Core.TheInside.{Inside}
+
+abbrev pub core_view : Inside → CoreView
+core_view c = record { plan = c.plan; entries = c.history.entries }
+
+-- the parts show the state behind the history, which has room for as many entries as the plan allows
+pub record IsCore (c : Inside) : Type 0 where
+  pub shows : Shows c.plan.plan c.pool c.scenario c.busy c.stopped (state_after c.plan.plan c.history.entries)
+  pub room : c.history.room ≡ c.plan.plan.entry_limit
+  pub few : c.plan.plan.limit ≤ 1000

@@ -1,0 +1,123 @@
+ghost use Rattle.std.specs.Prelude.{◌≡◌, [], IfErr, IfOk};
+
+use crate::busy_users::BusyUsers;
+use crate::fault::CoreFault;
+use ld_base::{Ask, History, Reply};
+use ld_plan::Plan;
+use ld_pool::Pool;
+use ld_rates::{RatesPart, RatesState};
+use std::alloc::Global;
+use std::marker::Model;
+
+/// The pool's machine for one instance: who plays what, and the history of it. It is seen as its plan
+/// and its history. All memory of the run is taken when it is made.
+#[derive(Debug, Drop)]
+pub struct Core {
+    pub(crate) plan: Plan,
+    pub(crate) pool: Pool,
+    pub(crate) scenario: RatesState,
+    pub(crate) busy: BusyUsers,
+    pub(crate) stopped: bool,
+    pub(crate) history: History,
+}
+
+impl Model for Core {
+    ghost use Rattle.ld_core.specs.CoreView.{CoreView};
+
+    ghost Value = { CoreView };
+
+    ghost use Rattle.ld_core.specs.Core.{core_view, IsCore};
+
+    ghost view = { λ c. core_view c };
+
+    ghost invariant = { λ c. IsCore c };
+}
+
+impl Core {
+    ghost use Rattle.std.specs.Prelude.{◌≡◌, [], IfErr, IfOk};
+    ghost use Rattle.ld_core.specs.Changes.{MayAsk};
+    ghost use Rattle.ld_core.specs.CoreView.{IsAsked};
+    ghost use Rattle.ld_core.specs.declared.fault.CoreFault.{CoreFault};
+
+    /// The core of a plan, with an empty history. It takes all memory of the run.
+    pub fn new(alloc: Global, plan: Plan) -> Result<Core, CoreFault>
+        ensures plan { IfOk result (λ core. core.plan ≡ plan) }
+        ensures empty { IfOk result (λ core. core.entries ≡ []) }
+        ensures memory { IfErr result (λ f. f ≡ CoreFault.Memory) }
+    {
+        let row = plan.row(0);
+        let users = plan.users();
+        let part = RatesPart {
+            begin: row.begin,
+            end: row.end,
+            grace: plan.grace(0),
+            pre: row.users,
+            max: row.max,
+            ticker: plan.ticker(alloc, 0)?,
+        };
+        let scenario = RatesState::new(alloc, part)?;
+        let pool = Pool::new(alloc, users.planned, users.limit)?;
+        let busy = BusyUsers::new(alloc, users.limit)?;
+        let history = History::new(alloc, plan.entries())?;
+        Ok(Core {
+            plan,
+            pool,
+            scenario,
+            busy,
+            stopped: false,
+            history,
+        })
+    }
+
+    /// Answers an ask of a thread at a reading, in nanoseconds from the run's start: it is one step of
+    /// the machine. Takes no memory.
+    ///
+    /// A Return is of a stint that this core handed to the thread, with a tally that fits its script,
+    /// and a Check names a scenario of the plan.
+    pub fn ask(&mut self, thread: u32, ask: Ask, reading: u64) -> Reply
+        requires may { MayAsk self.old thread ask }
+        ensures step { IsAsked self.old self.new thread ask reading result }
+    {
+        match ask {
+            Ask::Act => self.act(thread, reading),
+            Ask::Return {
+                stint,
+                finished,
+                tally,
+            } => self.take_back(thread, stint, finished, tally, reading),
+            Ask::Check { scenario: _ } => self.check(),
+            Ask::Look => self.look(),
+            Ask::Control(command) => self.control(thread, command, reading),
+        }
+    }
+
+    /// The history so far.
+    pub fn history(&self) -> &History
+        ensures { result.now.entries ≡ self.now.entries }
+    {
+        &self.history
+    }
+
+    /// The plan.
+    pub fn plan(&self) -> &Plan
+        ensures { result.now ≡ self.now.plan }
+    {
+        &self.plan
+    }
+
+    /// The plan and the history.
+    pub fn into_parts(self) -> (Plan, History)
+        ensures plan { result.0 ≡ self.plan }
+        ensures history { result.1.entries ≡ self.entries }
+    {
+        let Core {
+            plan,
+            pool: _,
+            scenario: _,
+            busy: _,
+            stopped: _,
+            history,
+        } = self;
+        (plan, history)
+    }
+}

@@ -1,0 +1,57 @@
+ghost use Rattle.std.specs.Prelude.{◌≡◌};
+ghost use Rattle.ld_core.specs.declared.fault.CoreFault.TheVariants.{Memory};
+
+use ld_base::BaseFault;
+use ld_plan::PlanFault;
+use ld_pool::PoolFault;
+use ld_rates::ExecFault;
+use std::alloc::AllocError;
+use thiserror::Error;
+
+/// Why there is no core.
+#[derive(Debug, Drop, PartialEq, Eq, Error)]
+pub enum CoreFault {
+    /// There is no memory left.
+    #[error("out of memory")]
+    Memory,
+}
+
+impl From<AllocError> for CoreFault {
+    ghost from_gives = { λ _ fault. fault ≡ Memory };
+
+    fn from(_fault: AllocError) -> CoreFault {
+        CoreFault::Memory
+    }
+}
+
+impl From<BaseFault> for CoreFault {
+    ghost from_gives = { λ _ fault. fault ≡ Memory };
+
+    fn from(_fault: BaseFault) -> CoreFault {
+        CoreFault::Memory
+    }
+}
+
+impl From<PlanFault> for CoreFault {
+    ghost from_gives = { λ _ fault. fault ≡ Memory };
+
+    fn from(_fault: PlanFault) -> CoreFault {
+        CoreFault::Memory
+    }
+}
+
+impl From<PoolFault> for CoreFault {
+    ghost from_gives = { λ _ fault. fault ≡ Memory };
+
+    fn from(_fault: PoolFault) -> CoreFault {
+        CoreFault::Memory
+    }
+}
+
+impl From<ExecFault> for CoreFault {
+    ghost from_gives = { λ _ fault. fault ≡ Memory };
+
+    fn from(_fault: ExecFault) -> CoreFault {
+        CoreFault::Memory
+    }
+}

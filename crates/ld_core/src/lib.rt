@@ -1,0 +1,17 @@
+//! The core of the user pool: one ask is one step of the machine.
+#![tactic(auto)]
+
+mod act;
+mod busy;
+mod busy_users;
+mod changes;
+mod core;
+mod fault;
+mod room;
+
+pub use crate::core::Core;
+pub use busy::Busy;
+pub use fault::CoreFault;
+
+#[cfg(test)]
+mod tests;
