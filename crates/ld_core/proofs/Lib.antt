@@ -7,3 +7,4 @@ pub mod BehindLemmas
 pub mod FoundLemmas
 pub mod CoreLemmas
 pub mod OpeningLemmas
+pub mod RunLemmas

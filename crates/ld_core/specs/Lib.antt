@@ -4,3 +4,4 @@ pub mod Shows
 pub mod Core
 pub mod Changes
 pub mod Firsts
+pub mod Runs

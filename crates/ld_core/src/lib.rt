@@ -7,11 +7,13 @@ mod busy_users;
 mod changes;
 mod core;
 mod fault;
+mod laws;
 mod room;
 
 pub use crate::core::Core;
 pub use busy::Busy;
 pub use fault::CoreFault;
+pub use laws::every_run;
 
 #[cfg(test)]
 mod tests;
