@@ -180,7 +180,7 @@ stands_share controls (part ∷ parts) (share ∷ shares) (suc n) s h = stands_s
 abbrev Keeps : (Share → Share) → Type 0
 Keeps change = (share : Share) (x : ℕ) → has share.ended x ≡ true → has (change share).ended x ≡ true
 
-has_more : (x : ℕ) (xs ys : List ℕ) → has xs x ≡ true → has (xs ++ ys) x ≡ true
+pub has_more : (x : ℕ) (xs ys : List ℕ) → has xs x ≡ true → has (xs ++ ys) x ≡ true
 has_more x [] ys h = absurd (cc)
 has_more x (y ∷ xs) ys h =
     elim (some_true (y == x) (has xs x) h) [

@@ -27,3 +27,4 @@ pub mod BusyStepLemmas
 pub mod FreeStepLemmas
 pub mod ScenarioListLemmas
 pub mod BusyRoomLemmas
+pub mod SettlesShareLemmas
