@@ -28,3 +28,6 @@ pub mod FreeStepLemmas
 pub mod ScenarioListLemmas
 pub mod BusyRoomLemmas
 pub mod SettlesShareLemmas
+pub mod SettlesItemLemmas
+pub mod SettlesReturnLemmas
+pub mod SettlesLemmas

@@ -1,7 +1,8 @@
 -- While no stop was commanded each share runs, and a closed one holds nobody and has no open item.
-use Rattle.std.proofs.Common.{◌≡◌, ◌+◌, ◌==◌, ℕ, zero, suc, Bool, true, false, not, cond, ◌&&◌, ◌||◌, List, [], ◌∷◌, ◌++◌, Option, None, Some, length, map, filter, arith, refl, sym, ap, ◌∙◌, subst, inl, inr, slice_get}
-use Rattle.std.proofs.lemmas.Bool.{true≢false}
+use Rattle.std.proofs.Common.{◌≡◌, ◌==◌, ℕ, zero, suc, Bool, true, false, not, cond, ◌&&◌, ◌||◌, List, [], ◌∷◌, ◌++◌, Option, None, Some, length, map, filter, arith, refl, sym, ap, ◌∙◌, subst, inl, inr, slice_get}
+use Rattle.std.proofs.lemmas.Bool.{true≢false, not-true, not-false, or_right}
 use Rattle.std.proofs.lemmas.Grind.{common_steps}
+use Rattle.std.proofs.lemmas.Option.{same_Some}
 use Rattle.std.specs.Prelude.{is_some}
 use Rattle.std.specs.List.{list_all, list_any}
 use Rattle.std.specs.Option.{option_map_or}
@@ -10,21 +11,20 @@ use Rattle.ld_base.specs.declared.act.Act.TheVariants.{Take, Grow, Start, Drop, 
 use Rattle.ld_base.specs.declared.command.Command.TheVariants as commands
 use Rattle.ld_base.specs.declared.entry.Entry.{Entry}
 use Rattle.ld_machine.specs.Plan.{Arrival, Part, Plan, owned_items, hard_moment}
-use Rattle.ld_machine.specs.State.{Level, Runs, StartsNothing, Halted, Condition, Idle, Busy, HeldUser, Share, State, all_closed, opening, opening_share, held_count, times_held}
-use Rattle.ld_machine.specs.Scenario.{Scenario, first_of, is_open, level_runs, runs, is_open_item, open_items, has_open_item, holds_nobody, level_may_stop, may_stop, may_take, may_close, executor_may_close, due_arrival, until_of}
+use Rattle.ld_machine.specs.State.{Level, Runs, StartsNothing, Halted, Condition, Idle, Busy, HeldUser, Share, State, opening, opening_share, times_held}
+use Rattle.ld_machine.specs.Scenario.{Scenario, first_of, is_open, level_runs, runs, is_open_item, open_items, has_open_item, holds_nobody, level_may_stop, may_take, may_close, executor_may_close, due_arrival, until_of}
 use Rattle.ld_machine.specs.Moves.{CountLate, StartOn, GrowAndStart, TakeAndStart, DropArrival, Move, users_of, scenarios}
 use Rattle.ld_machine.specs.Acts.{acts_of}
 use Rattle.ld_machine.specs.Effect.{if_user, hold, put_condition, let_go, change_at, change_share, end_item, end_item_of, after_entry, after_entries}
 use Rattle.ld_machine.specs.History.{adds_one, adds_two, are_steps}
 use Rattle.ld_machine.specs.OnTime.{is_asked_act}
-use Rattle.ld_machine.specs.Settled.{nobody_held}
 use Rattle.ld_machine.specs.Stops.{commands_stop}
-use Rattle.ld_machine.proofs.ListLemmas.{In, here, there, nothing_in, filter-In, both_true, some_true, some_not_none, in_two, In-one}
+use Rattle.ld_machine.proofs.ListLemmas.{In, here, nothing_in, filter-In, both_true, some_true, some_not_none, in_two, In-one}
 use Rattle.ld_machine.proofs.SourceLemmas.{Source, by_stop, by_release, by_take, by_arrival, by_start, by_drop, by_close, source_of}
 use Rattle.ld_machine.proofs.StepLemmas.{Wrote, first_enabled, one_wrote, pair_wrote}
 use Rattle.ld_machine.proofs.StopLemmas.{no_take}
 use Rattle.ld_machine.proofs.ItemLemmas.{has, has_more, ended_in, stands_share}
-use Rattle.ld_machine.proofs.TurnLemmas.{Pair, pair_of, acts_written}
+use Rattle.ld_machine.proofs.TurnLemmas.{pair_of, acts_written}
 
 -- a share of a part while no stop was commanded: it runs, and where it is closed, it holds nobody and
 -- each owned item has ended
@@ -155,17 +155,6 @@ act_running plan state at thread t (Control (commands.VusMax v)) all needs = all
 
 -- ---- what a scenario's cells say
 
-not_true : (b : Bool) → not b ≡ true → b ≡ false
-not_true false h = refl
-not_true true h = absurd cc
-
-not_false : (b : Bool) → not b ≡ false → b ≡ true
-not_false true h = refl
-not_false false h = absurd cc
-
-some_same : {A : Type 0} {a b : A} → Some a ≡ Some b → a ≡ b
-some_same e = cc
-
 take_runs : (s : Scenario) (slot t : ℕ) → may_take s slot t ≡ true → runs s ≡ true
 take_runs s slot t h =
     let P : Bool → Type 0 = λ b. runs s ≡ b → runs s ≡ true in
@@ -193,7 +182,7 @@ none_open s item none at =
     let P : Bool → Type 0 = λ b. is_open_item s item ≡ b → has s.share.ended item ≡ true in
     let tested : P (is_open_item s item) = elim (is_open_item s item) as P [
       | true ↦ λ e. absurd (no_first (open_items s) none (filter-In (is_open_item s) item at e))
-      | false ↦ λ e. not_false (has s.share.ended item) e
+      | false ↦ λ e. not-false (has s.share.ended item) e
     ] in tested refl
   where
     no_first : (xs : List ℕ) → is_some (first_of xs) ≡ false → In item xs → ⊥
@@ -205,8 +194,8 @@ close_none_open : (s : Scenario) (t : ℕ) → runs s ≡ true →
     (not (runs s) || (not (has_open_item s) && executor_may_close s.part.executor s t)) ≡ true → has_open_item s ≡ false
 close_none_open s t run h =
     elim (some_true (not (runs s)) _ h) [
-      | inl stopped ↦ absurd (true≢false (sym run ∙ not_true (runs s) stopped))
-      | inr none ↦ not_true (has_open_item s) (both_true (not (has_open_item s)) _ none).0
+      | inl stopped ↦ absurd (true≢false (sym run ∙ not-true (runs s) stopped))
+      | inr none ↦ not-true (has_open_item s) (both_true (not (has_open_item s)) _ none).0
     ]
 
 no_length : (held : List HeldUser) → (length held == 0) ≡ true → held ≡ []
@@ -215,10 +204,10 @@ no_length (x ∷ rest) h = let long : suc (length rest) ≡ 0 = grind (arith, co
 
 module _ (plan : Plan) (state : State) (k : ℕ) (s : Scenario) (stands : slice_get (scenarios plan state) k ≡ Some s) (all : AllRunning plan.parts state.shares) where
   its_share : (share : Share) → slice_get state.shares k ≡ Some share → share ≡ s.share
-  its_share share at = some_same (sym at ∙ (stands_share state.controls plan.parts state.shares k s stands).1)
+  its_share share at = same_Some _ _ (sym at ∙ (stands_share state.controls plan.parts state.shares k s stands).1)
 
   its_part : (part : Part) → slice_get plan.parts k ≡ Some part → part ≡ s.part
-  its_part part is = some_same (sym is ∙ (stands_share state.controls plan.parts state.shares k s stands).0)
+  its_part part is = same_Some _ _ (sym is ∙ (stands_share state.controls plan.parts state.shares k s stands).0)
 
   its_running : Running s.part s.share
   its_running =
@@ -227,15 +216,14 @@ module _ (plan : Plan) (state : State) (k : ℕ) (s : Scenario) (stands : slice_
 
   open_at : runs s ≡ true → IsOpenAt state k
   open_at run share at =
-      subst (λ (x : Share). x.closed ≡ false) (sym (its_share share at)) (not_true s.share.closed (both_true (is_open s) (level_runs s.share.level) run).0)
+      subst (λ (x : Share). x.closed ≡ false) (sym (its_share share at)) (not-true s.share.closed (both_true (is_open s) (level_runs s.share.level) run).0)
 
   over_at : (t : ℕ) → may_close s t ≡ true → IsOverAt plan state k
   over_at t h part share is at =
       let parts = both_true (is_open s && holds_nobody s) _ h in
       let front = both_true (is_open s) (holds_nobody s) parts.0 in
       let run : runs s ≡ true = rw (front.0, its_running.level) refl in
-      let none = close_none_open s t run parts.1 in
-      (
+      let none = close_none_open s t run parts.1 in (
         subst (λ (x : Share). x.held ≡ []) (sym (its_share share at)) (no_length s.share.held front.1),
         λ item owned.
             subst (λ (x : Share). has x.ended item ≡ true) (sym (its_share share at))
@@ -331,11 +319,7 @@ stop_to_end : (plan : Plan) (history : List Entry) (state : State) → state.sto
 stop_to_end plan [] state h = h
 stop_to_end plan (one ∷ rest) state h =
     stop_to_end plan rest (after_entry plan state one)
-    (stop_stays plan state one.turn one.thread one.reading one.act (or_true (commands_stop one.act) state.stop_commanded h))
-  where
-    or_true : (a b : Bool) → b ≡ true → (a || b) ≡ true
-    or_true true b e = refl
-    or_true false b e = e
+    (stop_stays plan state one.turn one.thread one.reading one.act (or_right (commands_stop one.act) state.stop_commanded h))
 
 -- where no stop was commanded at the end, the entry is no command to stop
 no_command : (plan : Plan) (state : State) (one : Entry) (rest : List Entry) →
