@@ -180,7 +180,7 @@ stands_share controls (part ∷ parts) (share ∷ shares) (suc n) s h = stands_s
 abbrev Keeps : (Share → Share) → Type 0
 Keeps change = (share : Share) (x : ℕ) → has share.ended x ≡ true → has (change share).ended x ≡ true
 
-has_more : (x : ℕ) (xs ys : List ℕ) → has xs x ≡ true → has (xs ++ ys) x ≡ true
+pub has_more : (x : ℕ) (xs ys : List ℕ) → has xs x ≡ true → has (xs ++ ys) x ≡ true
 has_more x [] ys h = absurd (cc)
 has_more x (y ∷ xs) ys h =
     elim (some_true (y == x) (has xs x) h) [
@@ -293,17 +293,17 @@ ended_now plan part state at thread t (Close k) n i stands h owned is_it = absur
 ended_now plan part state at thread t (Control command) n i stands h owned is_it = absurd (cc)
 
 -- an item that a first act ends hasn't ended before, is owned, and its scenario stands
-record New (plan : Plan) (state : State) (n i : ℕ) : Type 0 where
-  share : is_there state.shares n ≡ true
-  unended : has (ended_in state.shares n) i ≡ false
-  owned : (part : Part) → slice_get plan.parts n ≡ Some part → has (owned_items part.executor) i ≡ true
+pub record New (plan : Plan) (state : State) (n i : ℕ) : Type 0 where
+  pub share : is_there state.shares n ≡ true
+  pub unended : has (ended_in state.shares n) i ≡ false
+  pub owned : (part : Part) → slice_get plan.parts n ≡ Some part → has (owned_items part.executor) i ≡ true
 
 there_from : (shares : List Share) (n : ℕ) (share : Share) → slice_get shares n ≡ Some share → is_there shares n ≡ true
 there_from [] n share h = absurd (cc)
 there_from (x ∷ rest) zero share h = refl
 there_from (x ∷ rest) (suc n) share h = there_from rest n share h
 
-wrote_new : (plan : Plan) (part : Part) (state : State) (thread t : ℕ) (entries : List Entry) → Wrote plan state thread t entries →
+pub wrote_new : (plan : Plan) (part : Part) (state : State) (thread t : ℕ) (entries : List Entry) → Wrote plan state thread t entries →
     (n i : ℕ) (act : Act) → slice_get plan.parts n ≡ Some part → has_items part.executor ≡ true → In act (map (λ (e : Entry). e.act) entries) →
     item_of n act ≡ Some i → New plan state n i
 wrote_new plan part state thread t entries w n i act stands some at h =
@@ -396,12 +396,12 @@ first_gains (StartIteration k user item until) a b e = absurd (cc)
 first_gains (DropIteration k item) a b e = absurd (cc)
 first_gains (CloseScenario k) a b e = absurd (cc)
 
-gain_no_item : (n : ℕ) (act : Act) → is_gain act ≡ true → item_of n act ≡ None
+pub gain_no_item : (n : ℕ) (act : Act) → is_gain act ≡ true → item_of n act ≡ None
 gain_no_item n (Take k user slot) h = refl
 gain_no_item n (Grow k user slot) h = refl
 gain_no_item n _ h = absurd (cc)
 
-unasked_no_item : (n : ℕ) (act : Act) → is_asked_act act ≡ false → item_of n act ≡ None
+pub unasked_no_item : (n : ℕ) (act : Act) → is_asked_act act ≡ false → item_of n act ≡ None
 unasked_no_item n (Return k user item outcome tally) h = refl
 unasked_no_item n (Control command) h = refl
 unasked_no_item n _ h = absurd (cc)
@@ -426,7 +426,7 @@ module _ (plan : Plan) (part : Part) (n : ℕ) (stands : slice_get plan.parts n 
       let new = fresh refl in
       (new.unended, ended_now plan part state one.turn one.thread one.reading one.act n i stands new.share (new.owned part stands) is_it)
 
-  pair_gains : (state : State) (one two : Entry) → adds_two plan state one two ≡ true → is_gain one.act ≡ true
+  pub pair_gains : (state : State) (one two : Entry) → adds_two plan state one two ≡ true → is_gain one.act ≡ true
   pair_gains state one two h =
       let w = pair_wrote plan state one two h in
       let acts : acts_of w.move ≡ one.act ∷ two.act ∷ [] =

@@ -1,5 +1,5 @@
 -- A history goes on legally with the entries of a step.
-use Rattle.std.proofs.Common.{◌≡◌, ◌≤◌, ◌+◌, ℕ, zero, suc, Bool, true, false, cond, ◌&&◌, ◌||◌, List, [], ◌∷◌, ◌++◌, Option, None, Some, arith, refl, ap, sym, ◌∙◌, subst, inl, inr, slice_get}
+use Rattle.std.proofs.Common.{◌≡◌, ◌≤◌, ◌+◌, ℕ, zero, suc, Bool, true, false, cond, ◌&&◌, List, [], ◌∷◌, ◌++◌, Option, None, Some, arith, refl, ap, sym, ◌∙◌, subst, inl, inr, slice_get}
 use Rattle.std.proofs.lemmas.Grind.{common_steps}
 use Rattle.std.specs.Prelude.{◌==◌, nat_le, find, unwrap_or, if◌then◌else◌}
 use Rattle.std.specs.List.{list_any}
@@ -7,7 +7,7 @@ use Rattle.std.specs.Option.{option_map_or}
 use Rattle.ld_base.specs.Stint.{StintView, stint_of}
 use Rattle.ld_base.specs.Tally.{TallyView}
 use Rattle.ld_base.specs.declared.act.Act.{Act}
-use Rattle.ld_base.specs.declared.act.Act.TheVariants.{Take, Grow, Start, Drop, Late, Return, Release, Stop, Close, Control}
+use Rattle.ld_base.specs.declared.act.Act.TheVariants.{Take, Grow, Start, Drop, Late, Release, Stop, Close, Control}
 use Rattle.ld_base.specs.declared.act.Outcome.TheVariants.{Done, Interrupted}
 use Rattle.ld_base.specs.declared.ask.Ask.{Ask}
 use Rattle.ld_base.specs.declared.ask.Ask.TheVariants as asks

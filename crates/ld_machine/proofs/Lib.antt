@@ -27,3 +27,7 @@ pub mod BusyStepLemmas
 pub mod FreeStepLemmas
 pub mod ScenarioListLemmas
 pub mod BusyRoomLemmas
+pub mod SettlesShareLemmas
+pub mod SettlesItemLemmas
+pub mod SettlesReturnLemmas
+pub mod SettlesLemmas

@@ -71,7 +71,7 @@ split_among user item (h ∷ rest) =
     let later = split_among user item rest in
     omega arith
 
-split_held : (user item n : ℕ) (shares : List Share) → in_share (playing user item) n shares + elsewhere user item n shares ≡ times_held user shares
+pub split_held : (user item n : ℕ) (shares : List Share) → in_share (playing user item) n shares + elsewhere user item n shares ≡ times_held user shares
 split_held user item n [] = refl
 split_held user item zero (share ∷ rest) = let now = split_among user item share.held in omega arith
 split_held user item (suc n) (share ∷ rest) = let later = split_held user item n rest in omega arith
@@ -341,7 +341,7 @@ unasked_finds plan state at thread t (Close n) unasked h = tt
 unasked_finds plan state at thread t (Start n user item until) unasked h = absurd (cc)
 unasked_finds plan state at thread t (Release n user) unasked h = absurd (cc)
 
-one_finds : (plan : Plan) (state : State) (one : Entry) → adds_one plan state one ≡ true → Finds state one.act
+pub one_finds : (plan : Plan) (state : State) (one : Entry) → adds_one plan state one ≡ true → Finds state one.act
 one_finds plan state one h =
     let P : Bool → Type 0 = λ b. is_asked_act one.act ≡ b → Finds state one.act in
     let finds : P (is_asked_act one.act) = elim (is_asked_act one.act) as P [
@@ -414,11 +414,11 @@ idle_plays_nothing : (c : Condition) (item : ℕ) → is_idle_condition c ≡ tr
 idle_plays_nothing Idle item idle plays = cc
 idle_plays_nothing (Busy thread item' until) item idle plays = cc
 
-user_found : (state : State) (k one user : ℕ) (p : Condition → Bool) (f : HeldAs state k one p) → (one == user) ≡ true → (f.holder.user == user) ≡ true
+pub user_found : (state : State) (k one user : ℕ) (p : Condition → Bool) (f : HeldAs state k one p) → (one == user) ≡ true → (f.holder.user == user) ≡ true
 user_found state k one user p f e = subst (λ u. (u == user) ≡ true) (sym f.user_is) e
 
 -- an act of a step that is a turn of a user that plays is the Return of its iteration; else it doesn't touch it
-abbrev Turn : ℕ → ℕ → ℕ → Act → Type 0
+abbrev pub Turn : ℕ → ℕ → ℕ → Act → Type 0
 Turn n user item act =
     ((is_turn_of user act ≡ true) × (is_its_return n user item act ≡ true)) ⊎ ((is_turn_of user act ≡ false) × (touches user act ≡ false))
 
@@ -436,7 +436,7 @@ same_item : (c : Condition) (a b : ℕ) → plays_item a c ≡ true → plays_it
 same_item Idle a b ha hb = absurd (cc)
 same_item (Busy thread item until) a b ha hb = grind (arith, common_steps)
 
-act_turn : (state : State) (n user item : ℕ) (act : Act) → Holds state → Plays state n user item → Finds state act → Turn n user item act
+pub act_turn : (state : State) (n user item : ℕ) (act : Act) → Holds state → Plays state n user item → Finds state act → Turn n user item act
 act_turn state n user item (Start k one i until) holds plays f =
     let apart = idle_apart state n user item k one holds plays f in inr (apart, apart)
 act_turn state n user item (Release k one) holds plays f = inr (refl, idle_apart state n user item k one holds plays f)
@@ -487,7 +487,7 @@ pair_free plan state one two holds h p =
       | inr e ↦ (gains p.user (subst (λ a. gained a ≡ Some p.user) e refl)).0
     ]
 
-pair_turns : (plan : Plan) (state : State) (one two : Entry) (n user item : ℕ) → Holds state → Plays state n user item → adds_two plan state one two ≡ true →
+pub pair_turns : (plan : Plan) (state : State) (one two : Entry) (n user item : ℕ) → Holds state → Plays state n user item → adds_two plan state one two ≡ true →
     ((is_turn_of user one.act ≡ false) × (touches user one.act ≡ false)) × ((is_turn_of user two.act ≡ false) × (touches user two.act ≡ false))
 pair_turns plan state one two n user item holds plays h =
     let p = pair_of plan state one two h in
@@ -508,11 +508,11 @@ turn_next n user item one rest turn later = elim turn [
   | inr none ↦ rw none.0 (later none.1)
 ]
 
-goes_on : (plan : Plan) (state : State) (one : Entry) (n user item : ℕ) → touches user one.act ≡ false → Plays state n user item → Plays (after_entry plan state one) n user item
+pub goes_on : (plan : Plan) (state : State) (one : Entry) (n user item : ℕ) → touches user one.act ≡ false → Plays state n user item → Plays (after_entry plan state one) n user item
 goes_on plan state one n user item apart plays =
     let more = plays_on plan state one.turn one.thread one.reading one.act n user item apart in omega arith
 
-one_holds : (plan : Plan) (state : State) (one : Entry) → Holds state → adds_one plan state one ≡ true → Holds (after_entry plan state one)
+pub one_holds : (plan : Plan) (state : State) (one : Entry) → Holds state → adds_one plan state one ≡ true → Holds (after_entry plan state one)
 one_holds plan state one holds h = entry_holds plan state one holds (one_gains plan state one holds h)
 
 next_returns : (plan : Plan) (n user item : ℕ) (history : List Entry) (state : State) → are_steps plan state history ≡ true → Holds state → Plays state n user item →
@@ -536,7 +536,7 @@ next_returns plan n user item (one ∷ two ∷ rest) state h holds plays =
 
 -- ---- a user that starts plays
 
-times_there : (user : ℕ) (h : HeldUser) (share : Share) (n : ℕ) (shares : List Share) → slice_get shares n ≡ Some share → In h share.held →
+pub times_there : (user : ℕ) (h : HeldUser) (share : Share) (n : ℕ) (shares : List Share) → slice_get shares n ≡ Some share → In h share.held →
     (h.user == user) ≡ true → 1 ≤ in_share (times_among user) n shares
 times_there user h share n [] at held e = absurd (cc)
 times_there user h share zero (x ∷ rest) at held e =
@@ -568,14 +568,14 @@ in_share-hold user slot zero share (x ∷ rest) at =
     omega arith
 in_share-hold user slot (suc n) share (x ∷ rest) at = in_share-hold user slot n share rest at
 
-start_plays : (plan : Plan) (state : State) (at thread t n user item until : ℕ) → 1 ≤ in_share (times_among user) n state.shares →
+pub start_plays : (plan : Plan) (state : State) (at thread t n user item until : ℕ) → 1 ≤ in_share (times_among user) n state.shares →
     Plays (after_entry plan state (record { turn = at; thread = thread; act = Start n user item until; reading = t })) n user item
 start_plays plan state at thread t n user item until h =
     let first = in_share-put user thread item until n state.shares h in
     let second = in_share-end (playing user item) plan n n item (change_share state n (put_condition user (Busy thread item until))) in
     omega arith
 
-gain_held : (plan : Plan) (state : State) (at thread t : ℕ) (act : Act) (k user slot : ℕ) (share : Share) → slice_get state.shares k ≡ Some share →
+pub gain_held : (plan : Plan) (state : State) (at thread t : ℕ) (act : Act) (k user slot : ℕ) (share : Share) → slice_get state.shares k ≡ Some share →
     (Take k user slot ≡ act) ⊎ (Grow k user slot ≡ act) →
     1 ≤ in_share (times_among user) k (after_entry plan state (record { turn = at; thread = thread; act = act; reading = t })).shares
 gain_held plan state at thread t act k user slot share stands gains =

@@ -1,5 +1,5 @@
 // The laws of the machine, over all plans, states and histories.
-ghost use Rattle.std.specs.Prelude.{◌≡◌, ◌≢◌, ◌==◌, count_by, ◌∷◌, ◌++◌, ◌⊎◌, ◌↔◌, ◌<◌, ◌≤◌, ℕ, List, [], Contains, IsTrue, length, Some, slice_get};
+ghost use Rattle.std.specs.Prelude.{false, true, ◌≡◌, ◌≢◌, ◌==◌, count_by, ◌∷◌, ◌++◌, ◌⊎◌, ◌↔◌, ◌<◌, ◌≤◌, ℕ, List, [], Contains, IsTrue, length, Some, slice_get};
 ghost use Rattle.ld_base.specs.Tally.{TallyView, TallyFits};
 ghost use Rattle.ld_base.specs.declared.act.Act.{Act};
 ghost use Rattle.ld_base.specs.declared.act.Act.TheVariants.{Control};
@@ -11,7 +11,7 @@ ghost use Rattle.ld_base.specs.declared.entry.Entry.{Entry};
 ghost use Rattle.ld_base.specs.declared.metric.NameSpec.{NameSpec};
 ghost use Rattle.ld_machine.specs.Plan.{Part, Plan, owned_items};
 ghost use Rattle.ld_machine.specs.Settled.{all_returned, has_items, is_distinct, items_in, IsSettled};
-ghost use Rattle.ld_machine.specs.State.{Share, State, times_held};
+ghost use Rattle.ld_machine.specs.State.{all_closed, Share, State, times_held};
 ghost use Rattle.ld_machine.specs.Effect.{after_act, after_entries, state_after};
 ghost use Rattle.ld_machine.specs.ShareEffect.{scenario_of_act, share_after};
 ghost use Rattle.ld_machine.specs.Moves.{Move, enabled};
@@ -92,6 +92,13 @@ pub fn settled_items()
         slice_get plan.parts n ≡ Some part → IsTrue (has_items part.executor) → Contains (owned_items part.executor) item →
         count_by (λ k. k == item) (items_in n history) ≡ 1 }
     ensures returned { (plan : Plan) (history : List Entry) → IsSettled plan history → IsTrue (all_returned history) }
+{}
+
+/// A legal history without a commanded stop, behind which every scenario is closed, is settled: nobody is
+/// held, each owned item ended once and no other did, and each Start has its Return.
+pub fn settles()
+    ensures { (plan : Plan) (history : List Entry) → IsLegal plan history → (state_after plan history).stop_commanded ≡ false →
+        all_closed (state_after plan history) ≡ true → IsSettled plan history }
 {}
 
 /// Behind a legal history no user is held twice, by one scenario or by two; so it is busy with one

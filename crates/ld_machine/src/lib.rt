@@ -21,8 +21,8 @@ pub use further_examples::{
 };
 pub use laws::{
     added_by_steps, always_answered, behind_a_stop, dropped_and_late, first_acts, fitting_tallies,
-    fronts, goes_on, held_once, items_once, same_history, settled_items, shares_after_acts,
-    slots_once, starts_alternate, steps_leave, waits,
+    fronts, goes_on, held_once, items_once, same_history, settled_items, settles,
+    shares_after_acts, slots_once, starts_alternate, steps_leave, waits,
 };
 pub use together::{
     all_over, busy_behind_acts, busy_behind_steps, busy_in_share, busy_under_change, first_of_all,
