@@ -1,3 +1,12 @@
+pub mod TableLemmas
+pub mod OneLemmas
+pub mod HistoryLemmas
+pub mod ShowsLemmas
+pub mod WaitLemmas
+pub mod AskLemmas
+pub mod FreeLemmas
+pub mod WishLemmas
+pub mod OtherLemmas
 pub mod HeldLemmas
 pub mod BusyLemmas
 pub mod RangeLemmas
@@ -7,4 +16,5 @@ pub mod BehindLemmas
 pub mod FoundLemmas
 pub mod CoreLemmas
 pub mod OpeningLemmas
+pub mod OutLemmas
 pub mod RunLemmas

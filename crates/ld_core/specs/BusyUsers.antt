@@ -1,5 +1,5 @@
 -- The table of busy users.
-use Rattle.std.specs.Prelude.{◌≡◌, ◌≤◌, ℕ, zero, suc, List, Option, None, count_by, filter_map, is_some, length, slice_get, unwrap_or}
+use Rattle.std.specs.Prelude.{◌≡◌, ◌≤◌, ◌==◌, ◌&&◌, ℕ, Bool, zero, suc, List, Option, None, count_by, filter_map, is_some, length, slice_get, unwrap_or}
 use Rattle.std.specs.Option.{option_map}
 use Rattle.ld_core.specs.declared.busy.Busy.{Busy}
 
@@ -11,6 +11,10 @@ busy_count users = count_by is_some users
 abbrev pub busy_at : List (Option Busy) → ℕ → Option Busy
 busy_at users zero = None
 busy_at users (suc index) = unwrap_or (slice_get users index) None
+
+-- it is this item, that the thread started and that may last until this moment
+abbrev pub plays : Busy → ℕ → ℕ → ℕ → Bool
+plays busy thread item until = (busy.thread == thread) && (busy.item == item) && (busy.until == until)
 
 -- until when the iterations of the busy users may last
 abbrev pub untils_of : List (Option Busy) → List ℕ

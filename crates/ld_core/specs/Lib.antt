@@ -4,4 +4,5 @@ pub mod Shows
 pub mod Core
 pub mod Changes
 pub mod Firsts
+pub mod Single
 pub mod Runs

@@ -3,12 +3,12 @@ use crate::core::Core;
 use ld_base::{Act, Command, Outcome, Reply, Stint, Tally, Wish};
 
 impl Core {
-    ghost use Rattle.std.specs.Prelude.{◌≡◌, ◌+◌, ℕ, false};
+    ghost use Rattle.std.specs.Prelude.{◌≡◌, ◌≢◌, ◌+◌, ◌<◌, ℕ, false, length};
     ghost use Rattle.ld_base.specs.declared.ask.Ask.{Ask};
-    ghost use Rattle.ld_core.specs.Changes.{IsReturn};
+    ghost use Rattle.ld_core.specs.Changes.{IsReturn, MayHoldMore};
     ghost use Rattle.ld_core.specs.CoreView.{state_of, plan_of, IsAsked};
-    ghost use Rattle.ld_core.specs.Firsts.{IsFirst, IsFirstAnswer, IsFirstWithFree, NoStop};
-    ghost use Rattle.ld_machine.specs.Moves.{AnswerArrival, CloseScenario, CountLate, DropArrival, GrowAndStart, ReleaseUser, StartOn, StopScenario, TakeAndStart, TakeUser};
+    ghost use Rattle.ld_core.specs.Firsts.{IsFirst, IsFirstAnswer, IsFirstTake, IsFirstTakeFor, NoStop};
+    ghost use Rattle.ld_machine.specs.Moves.{AnswerArrival, CloseScenario, CountLate, DropArrival, GrowAndStart, ReleaseUser, StartOn, StopScenario};
     ghost use Rattle.ld_base.specs.declared.command.Command.{Command};
     ghost use Rattle.ld_machine.specs.State.{all_closed};
 
@@ -27,7 +27,7 @@ impl Core {
 
     // Performs what the scenario wishes, where it is open and may not be halted.
     fn act_wished(&mut self, thread: u32, reading: u64) -> Reply
-        requires open { all_closed (state_of self.old) ≡ false }
+        requires goes_on { all_closed (state_of self.old) ≡ false }
         requires no_stop { NoStop self.old reading }
         ensures { IsAsked self.old self.new thread Ask.Act reading result }
     {
@@ -106,7 +106,8 @@ impl Core {
 
     // Takes a free user.
     fn act_take(&mut self, thread: u32, slot: u32, reading: u64) -> Reply
-        requires first { IsFirstWithFree self.old reading (λ user. TakeUser 0 user slot) }
+        requires first { IsFirstTake self.old reading slot }
+        requires more { MayHoldMore self.old }
         ensures { IsAsked self.old self.new thread Ask.Act reading result }
     {
         match self.full(1, 0) {
@@ -119,14 +120,7 @@ impl Core {
     }
 
     // Starts a due arrival on an idle user.
-    fn act_start(
-        &mut self,
-        thread: u32,
-        user: u32,
-        item: u64,
-        until: u64,
-        reading: u64,
-    ) -> Reply
+    fn act_start(&mut self, thread: u32, user: u32, item: u64, until: u64, reading: u64) -> Reply
         requires first { IsFirstAnswer self.old reading item until (StartOn user) }
         ensures { IsAsked self.old self.new thread Ask.Act reading result }
     {
@@ -137,14 +131,7 @@ impl Core {
     }
 
     // Makes a user for a due arrival, and starts it.
-    fn act_grow(
-        &mut self,
-        thread: u32,
-        slot: u32,
-        item: u64,
-        until: u64,
-        reading: u64,
-    ) -> Reply
+    fn act_grow(&mut self, thread: u32, slot: u32, item: u64, until: u64, reading: u64) -> Reply
         requires first { IsFirstAnswer self.old reading item until (GrowAndStart ((state_of self.old).made + 1) slot) }
         ensures { IsAsked self.old self.new thread Ask.Act reading result }
     {
@@ -158,15 +145,8 @@ impl Core {
     }
 
     // Takes a free user for a due arrival, and starts it.
-    fn act_take_for(
-        &mut self,
-        thread: u32,
-        slot: u32,
-        item: u64,
-        until: u64,
-        reading: u64,
-    ) -> Reply
-        requires first { (due : ℕ) × IsFirstWithFree self.old reading (λ user. AnswerArrival 0 due item until (TakeAndStart user slot)) }
+    fn act_take_for(&mut self, thread: u32, slot: u32, item: u64, until: u64, reading: u64) -> Reply
+        requires first { IsFirstTakeFor self.old reading item until slot }
         ensures { IsAsked self.old self.new thread Ask.Act reading result }
     {
         match self.full(2, 1) {
@@ -206,7 +186,7 @@ impl Core {
         }
     }
 
-    // Takes a stint back: it is done where it finished no later than it had to.
+    // Takes a stint back.
     pub(crate) fn take_back(
         &mut self,
         thread: u32,
@@ -218,18 +198,16 @@ impl Core {
         requires may { IsReturn self.old thread stint tally }
         ensures { IsAsked self.old self.new thread (Ask.Return stint finished tally) reading result }
     {
-        let outcome = if finished && reading <= stint.until() {
-            Outcome::Done
-        } else {
-            Outcome::Interrupted
-        };
+        let _ = &self.plan;
+        let outcome = outcome_of(finished, reading, stint.until());
         self.give_back(thread, stint, outcome, tally, reading);
         Reply::Noted
     }
 
-    // Whether iterations go on.
-    pub(crate) fn check(&self) -> Reply
-        ensures { (thread reading : ℕ) → IsAsked self.now self.now thread (Ask.Check 0) reading result }
+    // Whether iterations of a scenario of the plan go on.
+    pub(crate) fn check(&self, scenario: u16) -> Reply
+        requires of_plan { scenario < length (plan_of self.now).parts }
+        ensures { (thread reading : ℕ) → IsAsked self.now self.now thread (Ask.Check scenario) reading result }
     {
         if self.scenario.level() == 2 {
             Reply::Halt
@@ -259,8 +237,17 @@ impl Core {
     {
         match command {
             Command::Stop => self.control_stop(thread, reading),
-            Command::Pause(_) | Command::Vus(_) | Command::VusMax(_) => Reply::Denied,
+            other => self.control_other(other),
         }
+    }
+
+    // Denies a command other than a stop.
+    fn control_other(&self, command: Command) -> Reply
+        requires other { command ≢ Command.Stop }
+        ensures { (thread reading : ℕ) → IsAsked self.now self.now thread (Ask.Control command) reading result }
+    {
+        let _ = &self.plan;
+        Reply::Denied
     }
 
     // Notes a stop, unless one was noted.
@@ -277,5 +264,19 @@ impl Core {
                 Reply::Noted
             }
         }
+    }
+}
+
+ghost use Rattle.std.specs.Prelude.{◌≡◌};
+ghost use Rattle.ld_machine.specs.Step.{outcome_of};
+
+// How an iteration ended: it is done where it finished no later than it had to.
+fn outcome_of(finished: bool, reading: u64, until: u64) -> Outcome
+    ensures { result ≡ outcome_of finished reading until }
+{
+    if finished && reading <= until {
+        Outcome::Done
+    } else {
+        Outcome::Interrupted
     }
 }

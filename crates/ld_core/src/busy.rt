@@ -1,3 +1,6 @@
+ghost use Rattle.std.specs.Prelude.{◌≡◌};
+ghost use Rattle.ld_core.specs.BusyUsers.{plays};
+
 /// What a busy user plays.
 #[derive(Clone, Copy, Debug, PartialEq, Eq)]
 pub struct Busy {
@@ -9,4 +12,13 @@ pub struct Busy {
     pub item: u64,
     /// The moment at which the iteration is to have ended, in nanoseconds from the run's start.
     pub until: u64,
+}
+
+impl Busy {
+    // Whether it is this item, that the thread started and that may last until this moment.
+    pub(crate) fn plays(&self, thread: u32, item: u64, until: u64) -> bool
+        ensures { result ≡ plays self.now thread item until }
+    {
+        self.thread == thread && self.item == item && self.until == until
+    }
 }

@@ -49,6 +49,14 @@ impl BusyUsers {
         self.count
     }
 
+    // What a user plays, if anything.
+    pub(crate) fn get(&self, user: u32) -> Option<Busy>
+        ensures { result ≡ busy_at self.now user }
+    {
+        let index = (user as usize).checked_sub(1)?;
+        *self.users.get(index)?
+    }
+
     // The user plays this from now on. It played nothing.
     pub(crate) fn put(&mut self, user: u32, busy: Busy)
         requires some { 1 ≤ user }

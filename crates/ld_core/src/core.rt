@@ -2,7 +2,7 @@ ghost use Rattle.std.specs.Prelude.{◌≡◌, [], IfErr, IfOk};
 
 use crate::busy_users::BusyUsers;
 use crate::fault::CoreFault;
-use ld_base::{Ask, History, Reply};
+use ld_base::{Ask, History, Reply, Stint};
 use ld_plan::Plan;
 use ld_pool::Pool;
 use ld_rates::{RatesPart, RatesState};
@@ -36,7 +36,8 @@ impl Model for Core {
 impl Core {
     ghost use Rattle.std.specs.Prelude.{◌≡◌, [], IfErr, IfOk};
     ghost use Rattle.ld_core.specs.Changes.{MayAsk};
-    ghost use Rattle.ld_core.specs.CoreView.{IsAsked};
+    ghost use Rattle.ld_core.specs.CoreView.{IsAsked, state_of};
+    ghost use Rattle.ld_machine.specs.Step.{is_out};
     ghost use Rattle.ld_core.specs.declared.fault.CoreFault.{CoreFault};
 
     /// The core of a plan, with an empty history. It takes all memory of the run.
@@ -85,9 +86,21 @@ impl Core {
                 finished,
                 tally,
             } => self.take_back(thread, stint, finished, tally, reading),
-            Ask::Check { scenario: _ } => self.check(),
+            Ask::Check { scenario } => self.check(scenario),
             Ask::Look => self.look(),
             Ask::Control(command) => self.control(thread, command, reading),
+        }
+    }
+
+    /// Whether a stint is out at a thread: it was handed to the thread, and is to be handed in yet.
+    pub fn is_out(&self, thread: u32, stint: &Stint) -> bool
+        ensures { result ≡ is_out (state_of self.now) thread stint.now }
+    {
+        match self.busy.get(stint.user()) {
+            Some(busy) => {
+                stint.scenario() == 0 && busy.plays(thread, stint.item(), stint.until())
+            }
+            None => false,
         }
     }
 

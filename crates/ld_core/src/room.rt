@@ -8,14 +8,17 @@ const SHORT_WAIT: u64 = 20_000_000;
 impl Core {
     ghost use Rattle.std.specs.Prelude.{◌≡◌, ◌≤◌};
     ghost use Rattle.ld_core.specs.CoreView.{plan_of, state_of};
+    ghost use Rattle.ld_core.specs.Single.{IsSingle};
     ghost use Rattle.ld_machine.specs.Room.{entries_refusal};
     ghost use Rattle.ld_machine.specs.Wait.{wait_moment};
 
-    // Why the history has no room for so many entries and busy users more, if it has none.
+    // Why the history has no room for so many entries and busy users more, if it has none. It is the
+    // history of one scenario.
     pub(crate) fn full(&self, added: u32, busy: u32) -> Option<Reply>
         requires few { added ≤ 2 }
         requires one { busy ≤ 1 }
-        ensures { result ≡ entries_refusal (plan_of self.now) (state_of self.now) added busy }
+        ensures refusal { result ≡ entries_refusal (plan_of self.now) (state_of self.now) added busy }
+        ensures single { IsSingle self.now }
     {
         let needed = self.history.len() as u64
             + self.busy.count() as u64
@@ -40,7 +43,8 @@ impl Core {
         let until = self.busy.next_until(reading);
         match (candidate, until) {
             (Some(candidate), Some(until)) => candidate.min(until),
-            (Some(moment), None) | (None, Some(moment)) => moment,
+            (Some(candidate), None) => candidate,
+            (None, Some(until)) => until,
             (None, None) => reading.saturating_add(SHORT_WAIT),
         }
     }
