@@ -1,19 +1,19 @@
 -- What an ask for an act gives, where there is one scenario.
-use Rattle.std.proofs.Common.{◌≡◌, ◌≢◌, ◌≤◌, ◌<◌, ◌+◌, ◌&&◌, nat_lt, ℕ, Bool, true, false, cond, List, [], ◌∷◌, ◌++◌, Option, None, Some, Contains, map, filter, slice_get, length, arith, refl, ap, sym, subst, inl, inr, ◌∙◌}
+use Rattle.std.proofs.Common.{◌≡◌, ◌≢◌, ◌≤◌, ◌<◌, ◌+◌, ◌&&◌, nat_lt, ℕ, Bool, true, false, cond, List, [], ◌∷◌, ◌++◌, Option, None, Some, Contains, map, filter, length, arith, refl, ap, sym, subst, inl, inr, ◌∙◌}
 use Rattle.std.specs.Prelude.{find, is_some, option_map}
 use Rattle.std.specs.Option.{option_map_or}
 use Rattle.std.proofs.lemmas.Grind.{common_steps}
 use Rattle.ld_base.specs.declared.act.Act.{Act}
-use Rattle.ld_base.specs.declared.act.Act.TheVariants.{Take, Grow, Start}
+use Rattle.ld_base.specs.declared.act.Act.TheVariants.{Take, Grow}
 use Rattle.ld_base.specs.declared.ask.Ask.TheVariants as asks
 use Rattle.ld_base.specs.declared.entry.Entry.{Entry}
 use Rattle.ld_base.specs.declared.reply.Reply.{Reply}
-use Rattle.ld_base.specs.declared.reply.Reply.TheVariants.{Full, Over, Wait}
+use Rattle.ld_base.specs.declared.reply.Reply.TheVariants.{Full, Wait}
 use Rattle.ld_base.specs.declared.reply.Room.TheVariants.{Entries}
-use Rattle.ld_machine.specs.Plan.{Arrival, Plan, hard_moment, due_moment}
-use Rattle.ld_machine.specs.State.{Idle, HeldUser, Share, State, all_closed, busy_count, busy_users, free_users, idle_users, is_busy, held_count}
+use Rattle.ld_machine.specs.Plan.{Arrival, Plan}
+use Rattle.ld_machine.specs.State.{Idle, HeldUser, State, all_closed, busy_users, free_users, idle_users, is_busy, held_count}
 use Rattle.ld_machine.specs.Scenario.{Scenario, due_arrival, first_of, has_ended, is_due, least_open_arrival, least_open_item, may_hold_more, runs, where_holds}
-use Rattle.ld_machine.specs.Moves.{Answer, CountLate, StartOn, GrowAndStart, TakeAndStart, DropArrival, Move, StopScenario, ReleaseUser, TakeUser, AnswerArrival, StartIteration, DropIteration, CloseScenario, Users, answers, users_of}
+use Rattle.ld_machine.specs.Moves.{Answer, CountLate, StartOn, GrowAndStart, TakeAndStart, DropArrival, Move, ReleaseUser, AnswerArrival, Users, answers, users_of}
 use Rattle.ld_machine.specs.Order.{first_moves}
 use Rattle.ld_machine.specs.Acts.{acts_of, added_entries, made_busy, scenario_of}
 use Rattle.ld_machine.specs.Replies.{reply_to}
@@ -21,7 +21,7 @@ use Rattle.ld_machine.specs.Room.{entries_refusal, entries_with, room_refusal}
 use Rattle.ld_machine.specs.Wait.{wait_moment}
 use Rattle.ld_machine.specs.Effect.{hold, with_user}
 use Rattle.ld_machine.specs.Step.{IsStep, act_results, answered, entries_of, move_result, open_results, performed}
-use Rattle.ld_machine.proofs.ListLemmas.{In, here, there, nothing_in, Contains-from_In, In-from_Contains, In-map, In-one, both_true}
+use Rattle.ld_machine.proofs.ListLemmas.{In, here, nothing_in, Contains-from_In, In-from_Contains, In-map, In-one, both_true}
 use Rattle.ld_machine.proofs.SourceLemmas.{Source, by_stop, by_release, by_take, by_arrival, by_start, by_drop, by_close, In-cond, on_answer, grow_answer}
 use Rattle.ld_rates.proofs.FirstLemmas.{map-In}
 use Rattle.ld_rates.proofs.KeptLemmas.{item_of_least}

@@ -1,35 +1,31 @@
 -- The parts of a core show the state behind an entry.
-use Rattle.std.proofs.Common.{◌≡◌, ◌≢◌, ◌<◌, ◌≤◌, ◌+◌, ◌-◌, ◌==◌, nat_lt, ℕ, zero, suc, Bool, true, false, not, cond, List, [], ◌∷◌, ◌++◌, Option, None, Some, append-nil, map, filter, flat_map, find, length, get_or, set, slice_get, refl, sym, ap, ap₂, ◌∙◌, subst, arith, rules, Contains, IsTrue}
-use Rattle.std.specs.Prelude.{count_by, is_some, IsSomeAnd}
+use Rattle.std.proofs.Common.{◌≡◌, ◌<◌, ◌≤◌, ◌+◌, ◌-◌, ◌==◌, ℕ, Bool, true, false, cond, List, [], ◌∷◌, ◌++◌, Option, None, Some, append-nil, map, flat_map, length, set, slice_get, refl, sym, ap, ap₂, ◌∙◌, subst, arith}
+use Rattle.std.specs.Prelude.{IsSomeAnd}
 use Rattle.std.specs.List.{list_any}
 use Rattle.std.specs.Option.{option_map_or}
-use Rattle.std.proofs.lemmas.Grind.{common_steps}
-use Rattle.std.proofs.lemmas.List.{length-map}
 use Rattle.ld_base.specs.Tally.{TallyView}
 use Rattle.ld_base.specs.declared.act.Act.{Act}
 use Rattle.ld_base.specs.declared.act.Act.TheVariants as acts
 use Rattle.ld_base.specs.declared.act.Outcome.{Outcome}
 use Rattle.ld_base.specs.declared.command.Command.TheVariants as commands
-use Rattle.ld_base.specs.declared.entry.Entry.{Entry}
 use Rattle.ld_machine.specs.Plan.{Part, Plan, owned_items}
-use Rattle.ld_machine.specs.State.{Condition, Idle, Busy, Controls, Halted, HeldUser, Share, State, StartsNothing, busy_count, busy_users, idle_users, is_busy, is_idle}
+use Rattle.ld_machine.specs.State.{Condition, Idle, Busy, Controls, Halted, HeldUser, Share, State, StartsNothing, busy_count, busy_users}
 use Rattle.ld_machine.specs.Commands.{stop_commanded_share}
-use Rattle.ld_machine.specs.Effect.{with_user, if_user, hold, put_condition, let_go, end_item, end_item_of, change_at, change_share, after_act, after_entry, count_entry}
+use Rattle.ld_machine.specs.Effect.{hold, put_condition, let_go, end_item, end_item_of, change_at, change_share, after_entry, count_entry}
 use Rattle.ld_machine.specs.Moves.{scenarios, scenarios_with}
 use Rattle.ld_machine.specs.Room.{entries_with}
-use Rattle.ld_machine.specs.Scenario.{Scenario, least_open_item, may_hold_more}
-use Rattle.ld_machine.specs.ShareEffect.{share_after}
+use Rattle.ld_machine.specs.Scenario.{Scenario}
 use Rattle.ld_pool.specs.Pool.{PoolView}
 use Rattle.ld_pool.specs.declared.user.User.{User}
 use Rattle.ld_pool.specs.declared.user.User.TheVariants as users
 use Rattle.ld_rates.specs.RatesView.{RatesView}
 use Rattle.ld_rates.specs.Shows as rates
 use Rattle.ld_core.specs.BusyUsers as table
-use Rattle.ld_core.specs.Shows.{Shows, condition_user, condition_busy}
+use Rattle.ld_core.specs.Shows.{Shows, condition_busy}
 use Rattle.ld_core.specs.declared.busy.Busy as playing
 use Rattle.ld_core.proofs.HeldLemmas.{among}
 use Rattle.ld_core.proofs.BusyLemmas.{count_changed}
-use Rattle.ld_core.proofs.PartsLemmas.{Parts, busy_long, busy_said, busy_of_condition, busy_counted, idle_user, parts_taken, parts_grown, parts_put, parts_released}
+use Rattle.ld_core.proofs.PartsLemmas.{Parts, busy_long, busy_said, busy_of_condition, busy_counted, parts_taken, parts_grown, parts_put, parts_released}
 
 -- ---- what is shown
 

@@ -1,5 +1,5 @@
 -- What holds of a core, before and behind an entry.
-use Rattle.std.proofs.Common.{◌≡◌, ◌<◌, ◌≤◌, ◌+◌, ℕ, Bool, List, [], ◌∷◌, ◌++◌, Option, length, sym, subst, ◌∙◌, ap, arith}
+use Rattle.std.proofs.Common.{◌≡◌, ◌<◌, ◌≤◌, ℕ, Bool, List, [], ◌∷◌, ◌++◌, Option, length, sym, subst, ◌∙◌, ap, arith}
 use Rattle.std.specs.Prelude.{IsSomeAnd, slice_get}
 use Rattle.ld_base.specs.History.{HistoryView}
 use Rattle.ld_base.specs.declared.act.Act.{Act}
@@ -17,7 +17,7 @@ use Rattle.ld_core.specs.Changes.{HasRoom, IsIdleUser, MayNote, OfScenario}
 use Rattle.ld_core.specs.Core.{IsCore, core_view}
 use Rattle.ld_core.specs.Shows.{Shows}
 use Rattle.ld_core.specs.declared.busy.Busy as playing
-use Rattle.ld_core.specs.declared.core.Core.TheInside.{Inside}
+use Rattle.ld_core.specs.declared.machine.Core.TheInside.{Inside}
 use Rattle.ld_core.proofs.FoundLemmas.{Finds, idle_found, next_shown, return_room}
 use Rattle.ld_core.proofs.BehindLemmas.{of_shown, shows_closed, shows_dropped, shows_halted, shows_late}
 use Rattle.ld_core.proofs.StateLemmas.{entries_counted, state_push}

@@ -1,5 +1,5 @@
 -- What the conditions of a core's changes say of its parts.
-use Rattle.std.proofs.Common.{◌≡◌, ◌≢◌, ◌<◌, ◌≤◌, ◌+◌, ◌-◌, ◌==◌, ◌&&◌, ◌||◌, nat_le, nat_lt, ℕ, zero, suc, Bool, true, false, not, cond, List, [], ◌∷◌, ◌++◌, Option, None, Some, map, filter, find, length, slice_get, refl, sym, ap, ap₂, ◌∙◌, subst, arith, rules, Contains, IsTrue, inl, inr}
+use Rattle.std.proofs.Common.{◌≡◌, ◌≢◌, ◌<◌, ◌≤◌, ◌+◌, ◌==◌, ◌&&◌, ◌||◌, nat_le, nat_lt, ℕ, zero, suc, Bool, true, false, not, cond, List, [], ◌∷◌, Option, None, Some, map, length, slice_get, refl, sym, ap, ap₂, ◌∙◌, subst, arith, Contains, IsTrue}
 use Rattle.std.specs.Prelude.{IsSomeAnd, count_by}
 use Rattle.std.specs.List.{list_any, list_all, range_with_len}
 use Rattle.std.specs.Option.{option_map_or}
@@ -8,7 +8,6 @@ use Rattle.std.proofs.lemmas.List.{length-map}
 use Rattle.std.proofs.lemmas.List.Sums.{length-filter, sum_by-cons}
 use Rattle.ld_base.specs.Stint.{StintView}
 use Rattle.ld_base.specs.Tally.{TallyView}
-use Rattle.ld_base.specs.declared.metric.NameSpec.{NameSpec}
 use Rattle.ld_machine.specs.Effect.{change_at, hold}
 use Rattle.ld_machine.specs.Moves.{scenarios_with}
 use Rattle.ld_machine.specs.Plan.{Part, Plan}
@@ -21,7 +20,6 @@ use Rattle.ld_machine.proofs.HolderLemmas.{or_parts}
 use Rattle.ld_machine.proofs.ListLemmas.{In, any-from_In, here, there, both_true, filter-In, In-filter, In-from_any, In-from_Contains, Contains-from_In, nothing_in}
 use Rattle.ld_pool.specs.Pool.{PoolView}
 use Rattle.ld_pool.specs.Users as pool
-use Rattle.ld_pool.specs.declared.user.User.{User}
 use Rattle.ld_pool.specs.declared.user.User.TheVariants as users
 use Rattle.ld_pool.proofs.UserLemmas.{user_at_place}
 use Rattle.ld_rates.specs.Applies.{next_item}

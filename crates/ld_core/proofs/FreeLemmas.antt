@@ -1,6 +1,6 @@
 -- The free users of a pool against those of the state that it shows.
-use Rattle.std.proofs.Common.{◌≡◌, ◌+◌, ◌==◌, ◌||◌, nat_lt, ℕ, suc, Bool, true, false, not, cond, List, [], ◌∷◌, Option, None, Some, map, filter, length, arith, refl, ap, sym, ◌∙◌}
-use Rattle.std.specs.Prelude.{count_by, find, is_some}
+use Rattle.std.proofs.Common.{◌≡◌, ◌+◌, ◌==◌, ◌||◌, nat_lt, ℕ, Bool, true, false, not, cond, List, [], ◌∷◌, Some, map, filter, length, arith, refl, ap, sym, ◌∙◌}
+use Rattle.std.specs.Prelude.{find, is_some}
 use Rattle.std.specs.List.{list_any, range_with_len}
 use Rattle.std.specs.Option.{option_map_or}
 use Rattle.std.proofs.lemmas.Grind.{common_steps}

@@ -1,11 +1,11 @@
 -- Held users by their numbers.
-use Rattle.std.proofs.Common.{◌≡◌, ◌<◌, ◌≤◌, ◌+◌, ◌==◌, nat_lt, ℕ, Bool, true, false, not, cond, if◌then◌else◌, List, [], ◌∷◌, Option, None, Some, map, filter, find, refl, sym, ap, ◌∙◌, subst, arith, rules}
+use Rattle.std.proofs.Common.{◌≡◌, ◌<◌, ◌≤◌, ◌+◌, ◌==◌, nat_lt, ℕ, Bool, true, false, not, cond, List, [], ◌∷◌, Option, None, Some, map, filter, find, refl, sym, ap, subst, arith}
 use Rattle.std.specs.Prelude.{option_map}
 use Rattle.std.specs.List.{AllByRecursion}
 use Rattle.std.proofs.lemmas.Grind.{common_steps}
-use Rattle.ld_machine.specs.State.{Condition, Idle, Busy, HeldUser}
+use Rattle.ld_machine.specs.State.{Condition, HeldUser}
 use Rattle.ld_machine.specs.Effect.{with_user, if_user}
-use Rattle.ld_machine.proofs.ListLemmas.{In, here, there, nothing_in, number_itself}
+use Rattle.ld_machine.proofs.ListLemmas.{In, here, there, number_itself}
 use Rattle.ld_core.specs.Shows.{Rise, IsMade}
 
 -- the user of a number

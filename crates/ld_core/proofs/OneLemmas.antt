@@ -1,22 +1,20 @@
 -- The pool's machine with one scenario.
-use Rattle.std.proofs.Common.{◌≡◌, ◌≢◌, ◌≤◌, ◌<◌, ◌+◌, ◌*◌, ◌==◌, ◌&&◌, ◌||◌, nat_lt, ℕ, zero, suc, Bool, true, false, not, cond, if◌then◌else◌, List, [], ◌∷◌, ◌++◌, Option, None, Some, Contains, map, filter, slice_get, length, arith, refl, ap, sym, subst, inl, inr, ◌∙◌}
-use Rattle.std.specs.Prelude.{flat_map, is_some, sum_by, IsSomeAnd, IsTrue, option_map, find}
-use Rattle.std.specs.List.{list_any, enumerate_from}
-use Rattle.std.specs.Option.{option_map_or}
+use Rattle.std.proofs.Common.{◌≡◌, ◌&&◌, nat_lt, ℕ, Bool, true, false, not, if◌then◌else◌, List, [], ◌∷◌, ◌++◌, Option, None, Some, Contains, slice_get, length, arith, refl, ap, inl, inr, ◌∙◌}
+use Rattle.std.specs.Prelude.{IsSomeAnd}
+use Rattle.std.specs.List.{list_any}
 use Rattle.std.proofs.lemmas.Grind.{common_steps}
 use Rattle.ld_base.specs.declared.reply.Reply.{Reply}
-use Rattle.ld_base.specs.declared.reply.Reply.TheVariants.{Full, Over, Wait}
-use Rattle.ld_machine.specs.Plan.{Arrival, Executor, Part, Plan, hard_moment, due_moment}
-use Rattle.ld_machine.specs.State.{HeldUser, Share, State, all_closed, busy_users, busy_count, free_users, held_count, idle_users}
-use Rattle.ld_machine.specs.Scenario.{Scenario, first_of, has_ended, least_open_arrival, least_open_item, due_arrival, is_due, may_hold_more, may_stop, may_take, runs, where_holds}
-use Rattle.ld_machine.specs.Moves.{Answer, CountLate, StartOn, GrowAndStart, TakeAndStart, DropArrival, Move, StopScenario, ReleaseUser, TakeUser, AnswerArrival, StartIteration, DropIteration, CloseScenario, Users, answers, enabled, moves_of, scenarios, users_of, stops, releases, takes, arrivals, starts, drops, closes}
+use Rattle.ld_machine.specs.Plan.{Part, Plan}
+use Rattle.ld_machine.specs.State.{HeldUser, Share, State, all_closed, busy_users, busy_count}
+use Rattle.ld_machine.specs.Scenario.{Scenario, may_stop}
+use Rattle.ld_machine.specs.Moves.{Move, StopScenario, ReleaseUser, TakeUser, AnswerArrival, StartIteration, DropIteration, CloseScenario, enabled, moves_of, scenarios, users_of, stops, releases, takes, arrivals, starts, drops, closes}
 use Rattle.ld_machine.specs.Order.{is_before, place_of, first_among, first_moves}
 use Rattle.ld_machine.specs.Acts.{added_entries, made_busy, scenario_of}
-use Rattle.ld_machine.specs.Room.{busy_room, entries_refusal, entries_with, or_else, room_refusal, samples_refusal, samples_with, script_room}
+use Rattle.ld_machine.specs.Room.{entries_refusal, or_else, room_refusal, samples_refusal, samples_with}
 use Rattle.ld_machine.specs.Wishes.{later_moves, IsFirstOf}
-use Rattle.ld_machine.proofs.ListLemmas.{In, here, there, nothing_in, Contains-from_In, In-from_Contains, In-append, In-filter, filter-In, In-map, In-one}
+use Rattle.ld_machine.proofs.ListLemmas.{In, here, there, nothing_in, Contains-from_In, In-from_Contains, In-append, In-filter, filter-In}
 use Rattle.ld_machine.proofs.WaitLemmas.{In-left}
-use Rattle.ld_machine.proofs.SourceLemmas.{Source, by_stop, by_release, by_take, by_arrival, by_start, by_drop, by_close, source_of, In-cond, on_answer, grow_answer}
+use Rattle.ld_machine.proofs.SourceLemmas.{Source, source_of}
 
 -- one scenario's part, and its share of the state
 pub record IsOne (plan : Plan) (state : State) (part : Part) (share : Share) : Type 0 where

@@ -1,15 +1,15 @@
 -- The parts of a new core show the opening.
-use Rattle.std.proofs.Common.{◌≡◌, ◌<◌, ◌≤◌, ◌+◌, ◌==◌, ◌&&◌, nat_lt, ℕ, zero, suc, Bool, true, false, not, cond, List, [], ◌∷◌, Option, None, Some, map, filter, length, replicate, slice_get, IsTrue, refl, sym, ap, ap₂, ◌∙◌, subst, arith, rules}
+use Rattle.std.proofs.Common.{◌≡◌, ◌<◌, ◌≤◌, ◌+◌, ◌==◌, nat_lt, ℕ, zero, suc, Bool, true, false, cond, List, [], ◌∷◌, Option, None, map, filter, replicate, slice_get, IsTrue, refl, sym, ap, ap₂, ◌∙◌, subst, arith}
 use Rattle.std.specs.Prelude.{IsSomeAnd}
 use Rattle.std.specs.List.{list_any, range_with_len}
 use Rattle.std.proofs.lemmas.Grind.{common_steps}
-use Rattle.ld_arrival.specs.Schedule.{arrival_at, schedule}
+use Rattle.ld_arrival.specs.Schedule.{arrival_at}
 use Rattle.ld_arrival.specs.Timetable.{Timetable, end_of, moment_of, planned, planned_below}
 use Rattle.ld_base.specs.History.{HistoryView}
-use Rattle.ld_machine.specs.Plan.{Arrival, ArrivalRate, Executor, Part, Plan, owned_items}
+use Rattle.ld_machine.specs.Plan.{Arrival, ArrivalRate, Executor, Part, owned_items}
 use Rattle.ld_machine.specs.Scenario.{executor_arrivals}
 use Rattle.ld_machine.specs.Settled.{is_distinct}
-use Rattle.ld_machine.specs.State.{Controls, Share, State, opening, opening_controls, opening_share}
+use Rattle.ld_machine.specs.State.{Controls, State, opening, opening_controls, opening_share}
 use Rattle.ld_machine.specs.Effect.{state_after}
 use Rattle.ld_plan.specs.PlanView.{IsPlanOf, PlanView, part_of}
 use Rattle.ld_plan.specs.PlanView as plans

@@ -1,5 +1,5 @@
 -- The asks other than those for an act, where there is one scenario.
-use Rattle.std.proofs.Common.{◌≡◌, ◌≢◌, ◌≤◌, ◌<◌, ◌+◌, ◌==◌, ◌&&◌, nat_lt, ℕ, zero, suc, Bool, true, false, not, cond, List, [], ◌∷◌, ◌++◌, Option, None, Some, Contains, slice_get, length, IsTrue, arith, refl, ap, sym, subst, ◌∙◌}
+use Rattle.std.proofs.Common.{◌≡◌, ◌≢◌, ◌<◌, ◌+◌, ◌==◌, ◌&&◌, ℕ, zero, suc, Bool, true, false, cond, List, [], ◌∷◌, ◌++◌, Option, None, Some, Contains, slice_get, length, IsTrue, arith, refl, ap, sym, subst, ◌∙◌}
 use Rattle.std.specs.List.{list_any}
 use Rattle.std.specs.Option.{option_map_or}
 use Rattle.std.proofs.lemmas.Grind.{common_steps}
@@ -15,22 +15,21 @@ use Rattle.ld_base.specs.declared.command.Command.TheVariants as commands
 use Rattle.ld_base.specs.declared.entry.Entry.{Entry}
 use Rattle.ld_base.specs.declared.reply.Reply.{Reply}
 use Rattle.ld_base.specs.declared.reply.Reply.TheVariants.{Alive, Denied, Go, Halt, Noted, Over}
-use Rattle.ld_machine.specs.Plan.{Part, Plan}
+use Rattle.ld_machine.specs.Plan.{Part}
 use Rattle.ld_machine.specs.State as machine
 use Rattle.ld_machine.specs.Commands.{is_denied}
-use Rattle.ld_machine.specs.Room.{entries_refusal, script_room}
-use Rattle.ld_machine.specs.Samples.{tally_fits}
+use Rattle.ld_machine.specs.Room.{entries_refusal}
 use Rattle.ld_machine.specs.Scenario.{Scenario, may_stop}
-use Rattle.ld_machine.specs.Step.{Result, answered, check_reply, control_result, is_busy_with, is_out, level_halts, look_reply, outcome_of, performed, results, return_of}
+use Rattle.ld_machine.specs.Step.{Result, answered, check_reply, is_busy_with, is_out, level_halts, outcome_of, performed, results, return_of}
 use Rattle.ld_machine.proofs.ListLemmas.{here, Contains-from_In}
 use Rattle.ld_rates.specs.RatesView.{number_of}
 use Rattle.ld_rates.specs.Shows as rates
-use Rattle.ld_core.specs.Changes.{IsReturn, MayAsk}
+use Rattle.ld_core.specs.Changes.{IsReturn}
 use Rattle.ld_core.specs.Core.{IsCore, core_view}
-use Rattle.ld_core.specs.CoreView.{Adds, CoreView, IsAsked, next_entry, plan_of, state_of}
+use Rattle.ld_core.specs.CoreView.{Adds, CoreView, IsAsked, plan_of, state_of}
 use Rattle.ld_core.specs.Firsts.{IsFirst, NoStop}
 use Rattle.ld_core.specs.Single.{IsSingle}
-use Rattle.ld_core.specs.declared.core.Core.TheInside.{Inside}
+use Rattle.ld_core.specs.declared.machine.Core.TheInside.{Inside}
 use Rattle.ld_core.proofs.HistoryLemmas.{entries_counted}
 use Rattle.ld_core.proofs.OneLemmas.{IsOne, closed_one, scenario_in, stop_first, to_scenario}
 use Rattle.ld_core.proofs.ShowsLemmas.{single_shown}

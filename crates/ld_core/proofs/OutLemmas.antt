@@ -1,19 +1,18 @@
 -- Which stints are out, by the table of busy users.
-use Rattle.std.proofs.Common.{◌≡◌, ◌≢◌, ◌<◌, ◌≤◌, ◌+◌, ◌-◌, ◌==◌, ◌&&◌, ◌||◌, ℕ, zero, suc, Bool, true, false, cond, List, [], ◌∷◌, Option, None, Some, map, slice_get, length, arith, refl, ap, sym, subst, ◌∙◌}
-use Rattle.std.specs.Prelude.{find}
+use Rattle.std.proofs.Common.{◌≡◌, ◌<◌, ◌≤◌, ◌==◌, ◌&&◌, ◌||◌, ℕ, zero, suc, Bool, true, false, cond, List, [], ◌∷◌, Option, None, Some, slice_get, length, arith, refl, ap, sym, subst, ◌∙◌}
 use Rattle.std.specs.List.{AllByRecursion, list_any}
 use Rattle.std.specs.Option.{option_map_or}
 use Rattle.std.proofs.lemmas.Grind.{common_steps}
 use Rattle.std.proofs.Math.Decide.{dec_lt}
 use Rattle.ld_base.specs.Stint.{StintView}
-use Rattle.ld_machine.specs.State.{Condition, Idle, Busy, HeldUser, Share, State}
+use Rattle.ld_machine.specs.State.{Condition, Idle, Busy, HeldUser, Share}
 use Rattle.ld_machine.specs.Step.{is_busy_with, is_out}
 use Rattle.ld_core.specs.BusyUsers.{busy_at, plays}
 use Rattle.ld_core.specs.Core.{IsCore, core_view}
 use Rattle.ld_core.specs.CoreView.{CoreView, state_of}
 use Rattle.ld_core.specs.Shows.{IsMade, Rise, busy_of, condition_busy}
 use Rattle.ld_core.specs.declared.busy.Busy as playing
-use Rattle.ld_core.specs.declared.core.Core.TheInside.{Inside}
+use Rattle.ld_core.specs.declared.machine.Core.TheInside.{Inside}
 use Rattle.ld_core.proofs.HeldLemmas.{Above, above_apart, among, rise_above, same_number, unmade_none}
 use Rattle.ld_core.proofs.PartsLemmas.{busy_long, busy_said}
 use Rattle.ld_core.proofs.BehindLemmas.{parts_shown}

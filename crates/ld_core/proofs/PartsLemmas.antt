@@ -1,6 +1,6 @@
 -- What a pool and a table say of the users that a scenario holds, when one of them changes.
-use Rattle.std.proofs.Common.{◌≡◌, ◌<◌, ◌≤◌, ◌+◌, ◌-◌, ◌==◌, ℕ, zero, suc, Bool, true, false, not, cond, List, [], ◌∷◌, ◌++◌, Option, None, Some, map, filter, find, length, get_or, set, slice_get, refl, sym, ap, ap₂, ◌∙◌, subst, arith, rules, add-one}
-use Rattle.std.specs.Prelude.{count_by, is_some, option_map, unwrap_or}
+use Rattle.std.proofs.Common.{◌≡◌, ◌<◌, ◌≤◌, ◌+◌, ◌-◌, ◌==◌, ℕ, zero, suc, Bool, true, false, not, cond, List, [], ◌∷◌, ◌++◌, Option, None, Some, map, filter, length, get_or, set, slice_get, refl, sym, ap, ap₂, ◌∙◌, subst, arith}
+use Rattle.std.specs.Prelude.{count_by, is_some, option_map}
 use Rattle.std.specs.List.{AllByRecursion, range_with_len}
 use Rattle.std.specs.Option.{option_map_or}
 use Rattle.std.proofs.lemmas.Grind.{common_steps}
@@ -8,7 +8,6 @@ use Rattle.std.proofs.lemmas.List.FromFn.{get_or-map-range_with_len, length-map-
 use Rattle.std.proofs.lemmas.List.Sums.{length-filter, sum_by-cons}
 use Rattle.ld_machine.specs.State.{Condition, Idle, Busy, HeldUser, is_busy, is_busy_condition}
 use Rattle.ld_machine.specs.Effect.{with_user, if_user}
-use Rattle.ld_machine.proofs.ListLemmas.{In, number_itself}
 use Rattle.ld_pool.specs.Users as pool
 use Rattle.ld_pool.specs.declared.user.User.{User}
 use Rattle.ld_pool.specs.declared.user.User.TheVariants as users
@@ -16,7 +15,7 @@ use Rattle.ld_core.specs.BusyUsers.{busy_at, busy_count}
 use Rattle.ld_core.specs.Shows.{Rise, IsMade, condition_user, condition_busy}
 use Rattle.ld_core.specs.declared.busy.Busy as playing
 use Rattle.ld_core.proofs.BusyLemmas.{busy_place}
-use Rattle.ld_core.proofs.HeldLemmas.{among, Above, above_lower, above_apart, below_apart, same_number, other_number, none_above, rise_above, found_number, found_in, found_at, found_more, others_more, rise_more, made_more, found_put, rise_put, made_put, none_left, others_left, rise_left, made_left, made_in, made_later, unmade_none}
+use Rattle.ld_core.proofs.HeldLemmas.{among, Above, above_lower, below_apart, same_number, other_number, none_above, rise_above, found_number, found_more, others_more, rise_more, made_more, found_put, rise_put, made_put, none_left, others_left, rise_left, made_left, made_later, unmade_none}
 use Rattle.ld_core.proofs.RangeLemmas.{same_on_range, changed_on_range, at_range}
 
 -- what the pool, and the table, say of a user

@@ -1,5 +1,5 @@
 -- The history of every run is legal.
-use Rattle.std.proofs.Common.{◌≡◌, [], ◌∷◌, ◌++◌, List, refl, subst, sym}
+use Rattle.std.proofs.Common.{[], ◌∷◌, ◌++◌, List, refl, subst, sym}
 use Rattle.ld_base.specs.declared.entry.Entry.{Entry}
 use Rattle.ld_core.specs.Runs.{Asked, Leave}
 use Rattle.ld_machine.specs.History.{IsLegal}

@@ -1,7 +1,6 @@
 -- What the parts of a core tell of the state that they show.
-use Rattle.std.proofs.Common.{◌≡◌, ◌≤◌, ◌<◌, ◌+◌, nat_lt, ℕ, Bool, true, false, cond, List, [], ◌∷◌, ◌++◌, Option, None, Some, length, arith, refl, ap, sym, subst, ◌∙◌}
+use Rattle.std.proofs.Common.{◌≡◌, ◌≤◌, ◌<◌, ◌+◌, nat_lt, ℕ, Bool, true, false, List, Option, None, Some, length, arith, refl, ap, sym, subst, ◌∙◌}
 use Rattle.std.proofs.lemmas.Grind.{common_steps}
-use Rattle.ld_base.specs.declared.reply.Reply.{Reply}
 use Rattle.ld_base.specs.declared.reply.Reply.TheVariants.{Full}
 use Rattle.ld_base.specs.declared.reply.Room.TheVariants.{Entries}
 use Rattle.ld_machine.specs.Plan.{Plan}
@@ -15,7 +14,7 @@ use Rattle.ld_core.specs.CoreView.{CoreView, plan_of, state_of}
 use Rattle.ld_core.specs.Shows.{Shows}
 use Rattle.ld_core.specs.Single.{IsSingle}
 use Rattle.ld_core.specs.declared.busy.Busy as playing
-use Rattle.ld_core.specs.declared.core.Core.TheInside.{Inside}
+use Rattle.ld_core.specs.declared.machine.Core.TheInside.{Inside}
 use Rattle.ld_core.proofs.HistoryLemmas.{entries_counted}
 use Rattle.ld_core.proofs.OneLemmas.{IsOne, busy_one}
 use Rattle.ld_core.proofs.TableLemmas.{table_count}

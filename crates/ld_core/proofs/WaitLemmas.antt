@@ -1,15 +1,13 @@
 -- The moment to wait for, where there is one scenario.
-use Rattle.std.proofs.Common.{◌≡◌, ◌≤◌, ◌<◌, ◌+◌, ◌&&◌, min, nat_lt, ℕ, Bool, true, false, cond, List, [], ◌∷◌, ◌++◌, Option, None, Some, filter, length, IsTrue, arith, refl, ap, sym, ◌∙◌}
-use Rattle.std.specs.Prelude.{unwrap_or, flat_map}
+use Rattle.std.proofs.Common.{◌≡◌, ◌&&◌, min, nat_lt, ℕ, Bool, true, false, List, [], ◌∷◌, ◌++◌, Option, None, Some, filter, IsTrue, arith, refl, ap, sym, ◌∙◌}
+use Rattle.std.specs.Prelude.{unwrap_or}
 use Rattle.std.specs.Option.{option_map_or}
-use Rattle.std.specs.List.{list_any}
 use Rattle.std.proofs.lemmas.Grind.{common_steps}
 use Rattle.std.proofs.lemmas.List.Elements.{filter-append}
 use Rattle.ld_machine.specs.Moment.{moment_after}
 use Rattle.ld_machine.specs.Plan.{Executor, SharedIterations, PerVuIterations, ConstantVus, RampingVus, ArrivalRate, ExternallyControlled, Plan, is_external}
-use Rattle.ld_machine.specs.State.{Share, State}
+use Rattle.ld_machine.specs.State.{State}
 use Rattle.ld_machine.specs.Scenario.{Scenario, is_open}
-use Rattle.ld_machine.specs.Moves.{scenarios}
 use Rattle.ld_machine.specs.Wait.{candidates, is_external_open, least_of, next_candidate, scenario_moments, short_wait, untils, wait_moment}
 use Rattle.ld_machine.specs.Wishes.{has_arrivals}
 use Rattle.ld_pool.specs.Pool.{PoolView}
@@ -20,7 +18,7 @@ use Rattle.ld_core.specs.Core.{IsCore, core_view}
 use Rattle.ld_core.specs.CoreView.{CoreView, plan_of, state_of}
 use Rattle.ld_core.specs.Shows.{Shows}
 use Rattle.ld_core.specs.declared.busy.Busy as playing
-use Rattle.ld_core.specs.declared.core.Core.TheInside.{Inside}
+use Rattle.ld_core.specs.declared.machine.Core.TheInside.{Inside}
 use Rattle.ld_core.proofs.OneLemmas.{scenario_in, scenarios_one}
 use Rattle.ld_core.proofs.ShowsLemmas.{one_shown}
 use Rattle.ld_core.proofs.TableLemmas.{table_untils}

@@ -1,18 +1,17 @@
 -- What a scenario's wish tells of the first acts, where there is one scenario.
-use Rattle.std.proofs.Common.{◌≡◌, ◌≢◌, ◌≤◌, ◌<◌, ◌+◌, nat_lt, ℕ, Bool, true, false, cond, if◌then◌else◌, List, [], ◌∷◌, Option, None, Some, Contains, map, length, IsTrue, arith, refl, ap, sym, subst, ◌∙◌}
+use Rattle.std.proofs.Common.{◌≡◌, ◌≤◌, ◌<◌, ◌+◌, nat_lt, ℕ, Bool, true, false, List, [], ◌∷◌, Contains, map, length, arith, refl, ap, sym, subst, ◌∙◌}
 use Rattle.std.specs.Prelude.{is_some}
 use Rattle.std.proofs.lemmas.Grind.{common_steps}
 use Rattle.std.proofs.lemmas.List.FromFn.{length-map-range_with_len}
 use Rattle.ld_base.specs.declared.wish.Wish.{Wish}
 use Rattle.ld_base.specs.declared.wish.Wish.TheVariants.{Nothing, Release, Take, Start, More, Drop, Late, Close}
-use Rattle.ld_base.specs.declared.act.Act.TheVariants as acts
-use Rattle.ld_machine.specs.Plan.{Part, Plan, hard_moment}
-use Rattle.ld_machine.specs.State.{State, all_closed, free_users}
+use Rattle.ld_machine.specs.Plan.{Part, hard_moment}
+use Rattle.ld_machine.specs.State.{all_closed, free_users}
 use Rattle.ld_machine.specs.Scenario.{Scenario, first_of, may_hold_more, may_stop}
-use Rattle.ld_machine.specs.Moves.{Answer, CountLate, StartOn, GrowAndStart, TakeAndStart, DropArrival, Move, ReleaseUser, TakeUser, AnswerArrival, CloseScenario, Users, users_of}
+use Rattle.ld_machine.specs.Moves.{Answer, CountLate, StartOn, GrowAndStart, TakeAndStart, DropArrival, Move, ReleaseUser, TakeUser, AnswerArrival, CloseScenario, users_of}
 use Rattle.ld_machine.specs.Order.{first_moves}
 use Rattle.ld_machine.specs.Wishes.{WishesFirst, TellsFirst, acts_wished, has_arrivals, more_answers, start_wished, drop_wished}
-use Rattle.ld_machine.proofs.ListLemmas.{In, here, there, nothing_in, Contains-from_In, In-from_Contains}
+use Rattle.ld_machine.proofs.ListLemmas.{In, here, Contains-from_In, In-from_Contains}
 use Rattle.ld_pool.specs.Users.{free_count}
 use Rattle.ld_pool.specs.declared.user.User.{User}
 use Rattle.ld_rates.specs.Shows as rates
@@ -23,7 +22,7 @@ use Rattle.ld_core.specs.Core.{IsCore, core_view}
 use Rattle.ld_core.specs.CoreView.{CoreView, plan_of, state_of}
 use Rattle.ld_core.specs.Firsts.{IsFirst, IsFirstAnswer, IsFirstTake, IsFirstTakeFor, NoStop}
 use Rattle.ld_core.specs.Shows.{user_of}
-use Rattle.ld_core.specs.declared.core.Core.TheInside.{Inside}
+use Rattle.ld_core.specs.declared.machine.Core.TheInside.{Inside}
 use Rattle.ld_core.proofs.FreeLemmas.{free_shown}
 use Rattle.ld_core.proofs.OneLemmas.{IsOne, nothing_first, of_scenario, scenario_in, to_scenario, wished_first}
 

@@ -1,5 +1,5 @@
 -- When a core may be changed in one way or another, in the machine's words.
-use Rattle.std.specs.Prelude.{◌≡◌, ◌≤◌, ◌<◌, ℕ, List, [], true, Some, Contains, IsTrue, IsSomeAnd, length, slice_get}
+use Rattle.std.specs.Prelude.{◌≡◌, ◌≤◌, ◌<◌, ℕ, Some, Contains, IsTrue, IsSomeAnd, length, slice_get}
 use Rattle.ld_base.specs.declared.act.Act.{Act}
 use Rattle.ld_base.specs.declared.act.Act.TheVariants as acts
 use Rattle.ld_base.specs.declared.ask.Ask.{Ask}

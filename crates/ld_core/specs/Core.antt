@@ -3,7 +3,7 @@ use Rattle.std.specs.Prelude.{◌≡◌, ◌≤◌}
 use Rattle.ld_machine.specs.Effect.{state_after}
 use Rattle.ld_core.specs.CoreView.{CoreView}
 use Rattle.ld_core.specs.Shows.{Shows}
-use Rattle.ld_core.specs.declared.core.Core.TheInside.{Inside}
+use Rattle.ld_core.specs.declared.machine.Core.TheInside.{Inside}
 
 abbrev pub core_view : Inside → CoreView
 core_view c = record { plan = c.plan; entries = c.history.entries }

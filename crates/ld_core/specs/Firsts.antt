@@ -1,5 +1,5 @@
 -- First acts of a core.
-use Rattle.std.specs.Prelude.{◌≡◌, ◌≢◌, ℕ, List, [], false, Contains}
+use Rattle.std.specs.Prelude.{◌≡◌, ◌≢◌, ℕ, [], false, Contains}
 use Rattle.ld_machine.specs.Moves.{Answer, TakeAndStart, Move, AnswerArrival, TakeUser}
 use Rattle.ld_machine.specs.Order.{first_moves}
 use Rattle.ld_machine.specs.State.{all_closed, free_users}

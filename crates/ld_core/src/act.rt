@@ -1,5 +1,5 @@
 // The asks of a core.
-use crate::core::Core;
+use crate::machine::Core;
 use ld_base::{Act, Command, Outcome, Reply, Stint, Tally, Wish};
 
 impl Core {

@@ -2,7 +2,7 @@
 ghost use Rattle.std.specs.Prelude.{◌≡◌, ◌≢◌, ◌<◌, ◌≤◌, ◌+◌, ◌++◌, ◌∷◌, [], length};
 
 use crate::busy::Busy;
-use crate::core::Core;
+use crate::machine::Core;
 use ld_base::{Act, Command, Entry, History, Outcome, Stint, Tally};
 use ld_rates::RatesState;
 

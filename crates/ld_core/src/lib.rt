@@ -5,12 +5,12 @@ mod act;
 mod busy;
 mod busy_users;
 mod changes;
-mod core;
 mod fault;
 mod laws;
+mod machine;
 mod room;
 
-pub use crate::core::Core;
+pub use crate::machine::Core;
 pub use busy::Busy;
 pub use fault::CoreFault;
 pub use laws::every_run;

@@ -1,5 +1,5 @@
 // Room in the history, and how long to wait.
-use crate::core::Core;
+use crate::machine::Core;
 use ld_base::{Reply, Room};
 
 /// How long a wait lasts where nothing says how long: 20 milliseconds, in nanoseconds.

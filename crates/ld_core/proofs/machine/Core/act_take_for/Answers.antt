@@ -1,0 +1,33 @@
+use Rattle.std.proofs.Common.{refl}
+use Rattle.ld_base.specs.declared.act.Act.TheVariants.{Take, Start}
+use Rattle.ld_machine.specs.Moves.{AnswerArrival, TakeAndStart}
+use Rattle.ld_core.proofs.AskLemmas.{holds_taken, next_still, performed_two, refused_with, room_at_all, room_left, room_still, taken_for_more, taken_for_next}
+use Rattle.ld_core.proofs.machine.Core.act_take_for.Goals as goal
+
+pub returns-in-Some : goal.returns-in-Some
+returns-in-Some c =
+    refused_with c.args.self.now c.in-Some.ensures.single c.args.thread c.args.reading (λ user. AnswerArrival 0 c.requires.first.due c.args.item c.args.until (TakeAndStart user c.args.slot)) c.in-Some.full c.requires.first.some c.requires.first.each
+    (λ user. refl) 2 1 (λ user. refl) (λ user. refl) c.in-Some.ensures.refusal
+
+pub take-user-requires-clause-more : goal.take-user-requires-clause-more
+take-user-requires-clause-more c = taken_for_more c.args.self.now c.in-None.ensures.single c.args.thread c.args.reading c.args.item c.args.until c.args.slot c.requires.first
+
+pub take-user-requires-clause-room : goal.take-user-requires-clause-room
+take-user-requires-clause-room c = room_at_all c.args.self.now (room_left c.args.self.now 2 1 c.in-None.ensures.refusal)
+
+pub start-requires-clause-next : goal.start-requires-clause-next
+start-requires-clause-next c =
+    next_still c.args.self.now c.in-None.ensures.single c.args.thread c.args.reading c.take-user.new.self (holds_taken c.args.self.now c.in-None.ensures.single c.args.thread c.args.reading c.take-user.new.self c.take-user.result c.args.slot c.take-user.ensures.added) c.args.item
+    (taken_for_next c.args.self.now c.in-None.ensures.single c.args.thread c.args.reading c.args.item c.args.until c.args.slot c.requires.first)
+
+pub start-requires-clause-room : goal.start-requires-clause-room
+start-requires-clause-room c =
+    room_still c.args.self.now c.in-None.ensures.single c.args.thread c.args.reading c.take-user.new.self (holds_taken c.args.self.now c.in-None.ensures.single c.args.thread c.args.reading c.take-user.new.self c.take-user.result c.args.slot c.take-user.ensures.added)
+    (room_left c.args.self.now 2 1 c.in-None.ensures.refusal)
+
+pub returns-in-None : goal.returns-in-None
+returns-in-None c =
+    rw c.start.ensures.stint
+    (performed_two c.args.self.now c.in-None.ensures.single c.args.thread c.args.reading (AnswerArrival 0 c.requires.first.due c.args.item c.args.until (TakeAndStart c.take-user.result c.args.slot))
+    (Take 0 c.take-user.result c.args.slot) (Start 0 c.take-user.result c.args.item c.args.until) c.take-user.new.self c.start.new.self
+    (c.requires.first.each c.take-user.result c.take-user.ensures.free) refl refl c.in-None.ensures.refusal c.take-user.ensures.added c.start.ensures.added)
