@@ -18,6 +18,8 @@ pub mod Settled
 pub mod Drops
 pub mod OnTime
 pub mod Rehearsal
+pub mod Playing
+pub mod WellTimed
 pub mod Examples
 pub mod FurtherExamples
 pub mod Stops

@@ -1,10 +1,11 @@
 -- Rehearsed histories: what one thread plays in virtual time, with iterations of one length.
-use Rattle.std.specs.Prelude.{◌≡◌, ℕ, ◌<◌, ◌≤◌, ◌⊎◌, Bool, true, false, not, ◌&&◌, ◌||◌, ◌==◌, nat_le, nat_lt, List, [], ◌∷◌, min, find, IsTrue, IsSome, length}
+use Rattle.std.specs.Prelude.{◌≡◌, ℕ, ◌<◌, ◌≤◌, ◌⊎◌, Bool, true, false, not, ◌&&◌, ◌||◌, ◌==◌, nat_le, nat_lt, List, [], ◌∷◌, Option, None, Some, Contains, min, find, IsTrue, length}
 use Rattle.std.specs.List.{list_all}
 use Rattle.std.specs.Option.{option_map_or}
 use Rattle.ld_base.specs.declared.act.Act.{Act}
-use Rattle.ld_base.specs.declared.act.Act.TheVariants.{Start, Return, Control}
+use Rattle.ld_base.specs.declared.act.Act.TheVariants.{Start, Late, Return, Control}
 use Rattle.ld_base.specs.declared.entry.Entry.{Entry}
+use Rattle.ld_base.specs.declared.reply.Reply.{Reply}
 use Rattle.ld_machine.specs.Moment.{moment_after}
 use Rattle.ld_machine.specs.Plan.{Plan}
 use Rattle.ld_machine.specs.State.{State, opening}
@@ -90,19 +91,27 @@ NothingEnabled plan state from to = (t : ℕ) → from ≤ t → t < to → enab
 abbrev pub NothingEnabledFrom : Plan → State → ℕ → Type 0
 NothingEnabledFrom plan state from = (t : ℕ) → from ≤ t → enabled plan state t ≡ []
 
--- at the moment t an act is enabled, and the first one has no room
-abbrev pub IsFullAt : Plan → State → ℕ → Type 0
-IsFullAt plan state t = (move : Move) × (rest : List Move) × (first_moves plan state t ≡ move ∷ rest) × IsSome (room_refusal plan state move)
+-- at the moment t a first act has no room, and this reply says so
+abbrev pub IsRefusedAt : Plan → State → ℕ → Reply → Type 0
+IsRefusedAt plan state t refusal =
+    (move : Move) × Contains (first_moves plan state t) move × (room_refusal plan state move ≡ Some refusal)
 
 -- an act is enabled at some moment from `from` up to and without `to`, and at the first such moment the
--- first act has no room
-abbrev pub IsFullBetween : Plan → State → ℕ → ℕ → Type 0
-IsFullBetween plan state from to =
-    (t : ℕ) × (from ≤ t) × (t < to) × NothingEnabled plan state from t × IsFullAt plan state t
+-- first act has no room, as this reply says
+abbrev pub IsRefusedBetween : Plan → State → ℕ → ℕ → Reply → Type 0
+IsRefusedBetween plan state from to refusal =
+    (t : ℕ) × (from ≤ t) × (t < to) × NothingEnabled plan state from t × IsRefusedAt plan state t refusal
 
 -- the same from `from` on
+abbrev pub IsRefusedFrom : Plan → State → ℕ → Reply → Type 0
+IsRefusedFrom plan state from refusal = (t : ℕ) × (from ≤ t) × NothingEnabled plan state from t × IsRefusedAt plan state t refusal
+
+-- the same with some reply
+abbrev pub IsFullBetween : Plan → State → ℕ → ℕ → Type 0
+IsFullBetween plan state from to = (refusal : Reply) × IsRefusedBetween plan state from to refusal
+
 abbrev pub IsFullFrom : Plan → State → ℕ → Type 0
-IsFullFrom plan state from = (t : ℕ) × (from ≤ t) × NothingEnabled plan state from t × IsFullAt plan state t
+IsFullFrom plan state from = (refusal : Reply) × IsRefusedFrom plan state from refusal
 
 -- from one entry's reading up to the next one's, where that is later: nothing is enabled, or there is
 -- no room for what is and the next entry is a Return
@@ -136,3 +145,28 @@ pub record IsRehearsed (plan : Plan) (long : ℕ) (history : List Entry) : Type 
   pub returned : IsTrue (all_returned_at long history)
   pub order : IsTrue (returns_first history)
   pub waits : Waits plan history
+
+-- ---- the first act without room
+
+-- The first place in these entries, and behind them, at which a first act has no room, and what says so.
+-- None where there is no such place.
+abbrev pub FirstRefusalFrom : Plan → State → ℕ → List Entry → Option Reply → Type 0
+FirstRefusalFrom plan state from [] None = NothingEnabledFrom plan state from
+FirstRefusalFrom plan state from [] (Some refusal) = IsRefusedFrom plan state from refusal
+FirstRefusalFrom plan state from (entry ∷ rest) first =
+    (NothingEnabled plan state from entry.reading × FirstRefusalFrom plan (after_entry plan state entry) entry.reading rest first)
+    ⊎ ((refusal : Reply) × (first ≡ Some refusal) × IsRefusedBetween plan state from entry.reading refusal)
+
+-- the first place in a whole history
+abbrev pub FirstRefusal : Plan → List Entry → Option Reply → Type 0
+FirstRefusal plan history first = FirstRefusalFrom plan (opening plan) 0 history first
+
+-- ---- lateness
+
+abbrev pub is_late : Act → Bool
+is_late (Late _ _) = true
+is_late _ = false
+
+-- no arrival is counted late
+abbrev pub nothing_late : List Entry → Bool
+nothing_late history = list_all (λ (entry : Entry). not (is_late entry.act)) history
