@@ -1,0 +1,34 @@
+// The laws of who plays.
+ghost use Rattle.std.specs.Prelude.{◌≡◌, ◌≤◌, ℕ, List, Some, IsTrue};
+ghost use Rattle.ld_base.specs.Stint.{StintView};
+ghost use Rattle.ld_base.specs.declared.entry.Entry.{Entry};
+ghost use Rattle.ld_machine.specs.Effect.{state_after};
+ghost use Rattle.ld_machine.specs.History.{IsLegal};
+ghost use Rattle.ld_machine.specs.Plan.{Plan};
+ghost use Rattle.ld_machine.specs.Playing.{IsNumbered, KeepsRoom, Play, play_of, stint_of_play};
+ghost use Rattle.ld_machine.specs.Step.{is_out};
+
+/// What a user plays by its last turn is what it is busy with.
+pub fn busy_turns()
+    ensures out { (plan : Plan) (history : List Entry) (user : ℕ) (play : Play) → IsLegal plan history → play_of user history ≡ Some play →
+        IsTrue (is_out (state_after plan history) play.thread (stint_of_play user play)) }
+    ensures playing { (plan : Plan) (history : List Entry) (thread : ℕ) (stint : StintView) → IsLegal plan history →
+        IsTrue (is_out (state_after plan history) thread stint) →
+        (play : Play) × (play_of stint.user history ≡ Some play) × (play.thread ≡ thread) × (stint ≡ stint_of_play stint.user play) }
+{}
+
+/// Whoever plays was made, within the plan's limit.
+pub fn players_made()
+    ensures { (plan : Plan) (history : List Entry) (user : ℕ) (play : Play) → plan.planned ≤ plan.limit → IsLegal plan history →
+        play_of user history ≡ Some play → (1 ≤ user) × (user ≤ plan.limit) }
+{}
+
+/// A legal history keeps to the plan's limit.
+pub fn keeps_room()
+    ensures { (plan : Plan) (history : List Entry) → IsLegal plan history → KeepsRoom plan history }
+{}
+
+/// The entries of a legal history are numbered from 1.
+pub fn numbered()
+    ensures { (plan : Plan) (history : List Entry) → IsLegal plan history → IsNumbered history }
+{}
