@@ -1,0 +1,23 @@
+// Who plays, over all legal histories.
+ghost use Rattle.std.specs.Prelude.{◌≡◌, ◌≤◌, ℕ, List, Contains, IsTrue, Some, slice_get};
+ghost use Rattle.ld_base.specs.Stint.{StintView};
+ghost use Rattle.ld_base.specs.declared.entry.Entry.{Entry};
+ghost use Rattle.ld_machine.specs.Plan.{Plan};
+ghost use Rattle.ld_machine.specs.State.{is_busy, HeldUser, Share};
+ghost use Rattle.ld_machine.specs.Effect.{state_after};
+ghost use Rattle.ld_machine.specs.Step.{is_out};
+ghost use Rattle.ld_machine.specs.History.{IsLegal};
+ghost use Rattle.ld_machine.specs.Playing.{Play, play_of, stint_of_play, IsNumbered, KeepsRoom};
+
+/// What a user plays by its last turn is what it is busy with behind a legal history: its stint is out
+/// at the thread that started it, no other stint is out, and each busy user plays.
+pub fn busy_turns()
+    ensures out { (plan : Plan) (history : List Entry) (user : ℕ) (play : Play) → IsLegal plan history → play_of user history ≡ Some play →
+        IsTrue (is_out (state_after plan history) play.thread (stint_of_play user play)) }
+    ensures playing { (plan : Plan) (history : List Entry) (thread : ℕ) (stint : StintView) → IsLegal plan history →
+        IsTrue (is_out (state_after plan history) thread stint) →
+        (play : Play) × (play_of stint.user history ≡ Some play) × (play.thread ≡ thread) × (stint ≡ stint_of_play stint.user play) }
+    ensures busy { (plan : Plan) (history : List Entry) (n : ℕ) (share : Share) (h : HeldUser) → IsLegal plan history →
+        slice_get (state_after plan history).shares n ≡ Some share → Contains share.held h → IsTrue (is_busy h) →
+        (play : Play) × (play_of h.user history ≡ Some play) }
+{}
