@@ -32,3 +32,6 @@ pub mod SettlesItemLemmas
 pub mod SettlesReturnLemmas
 pub mod SettlesLemmas
 pub mod PlayingLemmas
+pub mod PlayersLemmas
+pub mod NumberedLemmas
+pub mod KeepsRoomLemmas

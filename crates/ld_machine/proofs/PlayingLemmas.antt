@@ -160,7 +160,7 @@ out_stays plan state at thread t (Control (commands.VusMax v)) user thread' n it
 -- ---- who holds a user
 
 -- where the test passes, the scenario holds the user so
-held_as : (state : State) (n user : ℕ) (q : Condition → Bool) → some_held (is_under user q) n state.shares ≡ true → HeldAs state n user q
+pub held_as : (state : State) (n user : ℕ) (q : Condition → Bool) → some_held (is_under user q) n state.shares ≡ true → HeldAs state n user q
 held_as state n user q h =
     let P : Option Share → Type 0 = λ o. slice_get state.shares n ≡ o →
     option_map_or (λ (share : Share). list_any (is_under user q) share.held) o false ≡ true → HeldAs state n user q in
@@ -197,7 +197,7 @@ two_same user g h a b (suc n) (suc m) (x ∷ rest) once at_a at_b in_a in_b is_g
     let it = two_same user g h a b n m rest (omega arith) at_a at_b in_a in_b is_g is_h in
     (ap suc it.0, it.1)
 
-user_passes : (one user : ℕ) → one ≡ user → (one == user) ≡ true
+pub user_passes : (one user : ℕ) → one ≡ user → (one == user) ≡ true
 user_passes one user same = subst (λ u. (u == user) ≡ true) (sym same) (number_itself user)
 
 -- a user that is held once is held in one scenario, under one condition

@@ -21,3 +21,19 @@ pub fn busy_turns()
         slice_get (state_after plan history).shares n ≡ Some share → Contains share.held h → IsTrue (is_busy h) →
         (play : Play) × (play_of h.user history ≡ Some play) }
 {}
+
+/// Whoever plays was made, within the plan's limit: users are numbered from 1 up to it.
+pub fn players_made()
+    ensures { (plan : Plan) (history : List Entry) (user : ℕ) (play : Play) → plan.planned ≤ plan.limit → IsLegal plan history →
+        play_of user history ≡ Some play → (1 ≤ user) × (user ≤ plan.limit) }
+{}
+
+/// A legal history keeps to the plan's limit of entries, the Returns of all who are busy counted in.
+pub fn keeps_room()
+    ensures { (plan : Plan) (history : List Entry) → IsLegal plan history → KeepsRoom plan history }
+{}
+
+/// The entries of a legal history are numbered from 1, in their order.
+pub fn numbered()
+    ensures { (plan : Plan) (history : List Entry) → IsLegal plan history → IsNumbered history }
+{}
