@@ -1,5 +1,5 @@
 -- A legal history keeps to the limit of entries, the Returns of all who are busy counted in.
-use Rattle.std.proofs.Common.{◌≡◌, ◌≤◌, ◌<◌, ◌+◌, ◌∙◌, ℕ, Bool, true, false, cond, ◌&&◌, nat_lt, List, [], ◌∷◌, Option, None, Some, map, flat_map, length, arith, refl, sym, ap, subst, inl, inr, slice_get}
+use Rattle.std.proofs.Common.{◌≡◌, ◌≤◌, ◌+◌, ◌∙◌, ℕ, Bool, true, false, cond, ◌&&◌, nat_lt, List, [], ◌∷◌, Option, None, Some, map, flat_map, length, arith, refl, ap, subst, inl, inr, slice_get}
 use Rattle.std.specs.Option.{option_map_or}
 use Rattle.std.proofs.lemmas.Grind.{common_steps}
 use Rattle.ld_base.specs.declared.act.Act.{Act}
@@ -14,9 +14,9 @@ use Rattle.ld_machine.specs.Plan.{Part, Plan}
 use Rattle.ld_machine.specs.State.{Share, State, all_closed, busy_users, busy_count, opening, opening_share}
 use Rattle.ld_machine.specs.Moves.{Move}
 use Rattle.ld_machine.specs.Order.{first_moves}
-use Rattle.ld_machine.specs.Acts.{acts_of, added_entries, made_busy, scenario_of}
+use Rattle.ld_machine.specs.Acts.{acts_of, added_entries, made_busy}
 use Rattle.ld_machine.specs.Replies.{reply_to}
-use Rattle.ld_machine.specs.Room.{entries_with, entries_refusal, samples_refusal, or_else, room_refusal, script_room}
+use Rattle.ld_machine.specs.Room.{entries_with, entries_refusal, or_else, room_refusal, script_room}
 use Rattle.ld_machine.specs.Wait.{wait_moment}
 use Rattle.ld_machine.specs.Commands.{is_denied}
 use Rattle.ld_machine.specs.Effect.{after_entry, after_entries, state_after}

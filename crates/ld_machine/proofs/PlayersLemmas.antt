@@ -1,5 +1,5 @@
 -- Whoever plays was made, within the plan's limit.
-use Rattle.std.proofs.Common.{◌≡◌, ◌≤◌, ◌==◌, ◌&&◌, ℕ, Bool, true, List, [], ◌∷◌, Some, arith, inl, inr}
+use Rattle.std.proofs.Common.{◌≡◌, ◌≤◌, ◌==◌, ◌&&◌, ℕ, true, List, [], ◌∷◌, Some, arith, inl, inr}
 use Rattle.ld_base.specs.declared.entry.Entry.{Entry}
 use Rattle.ld_machine.specs.Plan.{Plan}
 use Rattle.ld_machine.specs.State.{HeldUser, State, opening}
