@@ -16,11 +16,12 @@ use Rattle.ld_machine.specs.Effect.{with_user, if_user, hold, put_condition, let
 use Rattle.ld_machine.specs.Step.{is_busy_with, is_out}
 use Rattle.ld_machine.specs.History.{adds_one, adds_two, are_steps, IsLegal}
 use Rattle.ld_machine.specs.Playing.{Play, play_behind, play_after, play_of, stint_of_play}
-use Rattle.ld_machine.proofs.ListLemmas.{In, here, there, In-from_any, any-from_In, both_true, some_true, number_itself}
+use Rattle.ld_machine.proofs.ListLemmas.{In, here, In-from_any, any-from_In, both_true, some_true, number_itself}
 use Rattle.ld_machine.proofs.StepLemmas.{pair_wrote}
 use Rattle.ld_machine.proofs.HolderLemmas.{Holds, wrote_gains, entry_holds, two_hold, opening_holds}
 use Rattle.ld_machine.proofs.BusyLemmas.{once_same, same_number, held_stop, held_end_item}
-use Rattle.ld_machine.proofs.BusyStepLemmas.{change_stands}
+use Rattle.ld_machine.proofs.BusyStepLemmas.{change_stands, with_there}
+use Rattle.ld_machine.proofs.FirstOfAllLemmas.{map-In}
 use Rattle.ld_machine.proofs.FreeLemmas.{among_held}
 use Rattle.ld_machine.proofs.TurnLemmas.{among_there, touches, HeldAs, Finds, one_finds, one_holds, pair_of}
 
@@ -227,10 +228,6 @@ same_busy (Busy x y z) thread item until thread' item' until' a b =
 
 -- ---- what a turn makes of its user
 
-map-In : {A B : Type 0} (f : A → B) (x : A) {xs : List A} → In x xs → In (f x) (map f xs)
-map-In f x here = here
-map-In f x (there more) = there (map-In f x more)
-
 put_passes : (user : ℕ) (q : Condition → Bool) (condition : Condition) (h : HeldUser) → q condition ≡ true → (h.user == user) ≡ true →
     is_under user q (if_user user condition h) ≡ true
 put_passes user q condition h holds is =
@@ -350,12 +347,6 @@ module _ (plan : Plan) (state : State) (at thread t : ℕ) where
   act_matches (Control command) user played holds later f matches = untouched (Control command) user played refl matches
 
 -- ---- steps
-
-with_there : (h : HeldUser) (held : List HeldUser) → In h (with_user h held)
-with_there h [] = here
-with_there h (g ∷ rest) =
-    let P : Bool → Type 0 = λ b. In h (cond b (h ∷ g ∷ rest) (g ∷ with_user h rest)) in
-    elim (nat_lt h.user g.user) as P [ true ↦ here | false ↦ there (with_there h rest) ]
 
 -- a user that was taken or grown is idle
 gained_idle : (plan : Plan) (state : State) (at thread t : ℕ) (act : Act) (n user slot : ℕ) (share : Share) → slice_get state.shares n ≡ Some share →
