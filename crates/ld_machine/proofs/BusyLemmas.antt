@@ -23,7 +23,7 @@ pub same_number : (a b : ℕ) → (a == b) ≡ true → a ≡ b
 same_number a b h = grind (arith, common_steps)
 
 -- a user that is held once is held in one way
-once_same : (user : ℕ) (g h : HeldUser) (held : List HeldUser) → times_among user held ≤ 1 → In g held → In h held →
+pub once_same : (user : ℕ) (g h : HeldUser) (held : List HeldUser) → times_among user held ≤ 1 → In g held → In h held →
     (g.user == user) ≡ true → (h.user == user) ≡ true → g ≡ h
 once_same user g h [] once at_g at_h is_g is_h = absurd (nothing_in at_g)
 once_same user g h (x ∷ xs) once here here is_g is_h = refl

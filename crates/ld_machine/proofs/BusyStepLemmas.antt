@@ -141,7 +141,7 @@ change_stands n change share [] h = absurd (cc)
 change_stands zero change share (x ∷ rest) h = let same : x ≡ share = cc in ap (λ s. Some (change s)) same
 change_stands (suc n) change share (x ∷ rest) h = change_stands n change share rest h
 
-with_there : (h : HeldUser) (held : List HeldUser) → In h (with_user h held)
+pub with_there : (h : HeldUser) (held : List HeldUser) → In h (with_user h held)
 with_there h [] = here
 with_there h (g ∷ rest) =
     let P : Bool → Type 0 = λ b. In h (cond b (h ∷ g ∷ rest) (g ∷ with_user h rest)) in

@@ -244,7 +244,7 @@ no_growth (Grow n user slot) h = absurd (cc)
 no_growth _ h = refl
 
 -- no step makes more users than the limit
-one_within : (plan : Plan) (state : State) (one : Entry) → state.made ≤ plan.limit → adds_one plan state one ≡ true → (after_entry plan state one).made ≤ plan.limit
+pub one_within : (plan : Plan) (state : State) (one : Entry) → state.made ≤ plan.limit → adds_one plan state one ≡ true → (after_entry plan state one).made ≤ plan.limit
 unfolding grown_in
 one_within plan state one within h =
     let after = made_after plan state one.turn one.thread one.reading one.act in
@@ -257,7 +257,7 @@ one_within plan state one within h =
     ] in
     let total = bound refl in omega arith
 
-two_within : (plan : Plan) (state : State) (one two : Entry) → state.made ≤ plan.limit → adds_two plan state one two ≡ true →
+pub two_within : (plan : Plan) (state : State) (one two : Entry) → state.made ≤ plan.limit → adds_two plan state one two ≡ true →
     (after_entry plan (after_entry plan state one) two).made ≤ plan.limit
 unfolding grown_in
 two_within plan state one two within h =

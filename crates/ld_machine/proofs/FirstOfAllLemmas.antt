@@ -47,6 +47,11 @@ before_once a b ab = false_unless (is_before b a) (λ ba. true≢false (sym (bef
 
 -- ---- acts of scenarios
 
+-- an element's image is one of the images
+pub map-In : {A B : Type 0} (f : A → B) (x : A) {xs : List A} → In x xs → In (f x) (map f xs)
+map-In f x here = here
+map-In f x (there more) = there (map-In f x more)
+
 pub In-of : {A : Type 0} {x : A} {xs : List A} → Contains xs x → In x xs
 In-of {A} {x} {xs} h = In-from_Contains x xs h.0 h.1 h.2
 
@@ -177,10 +182,6 @@ module _ (plan : Plan) (state : State) (t : ℕ) where
   performed_in : (thread : ℕ) (m : Move) (ms : List Move) → In m ms → In (move_result plan state thread t m) (open_results plan state thread t ms)
   performed_in thread m [] h = absurd (nothing_in h)
   performed_in thread m (x ∷ xs) h = map-In (move_result plan state thread t) m h
-    where
-      map-In : {A B : Type 0} (f : A → B) (x : A) {xs : List A} → In x xs → In (f x) (map f xs)
-      map-In f x here = here
-      map-In f x (there more) = there (map-In f x more)
 
   pub first_performed : (thread : ℕ) (m : Move) → In m (first_moves plan state t) → In (move_result plan state thread t m) (act_results plan state thread t)
   first_performed thread m h =

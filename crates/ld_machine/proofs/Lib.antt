@@ -31,3 +31,7 @@ pub mod SettlesShareLemmas
 pub mod SettlesItemLemmas
 pub mod SettlesReturnLemmas
 pub mod SettlesLemmas
+pub mod PlayingLemmas
+pub mod PlayersLemmas
+pub mod NumberedLemmas
+pub mod KeepsRoomLemmas

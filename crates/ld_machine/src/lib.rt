@@ -8,6 +8,7 @@
 mod examples;
 mod further_examples;
 mod laws;
+mod playing;
 mod together;
 mod wish_examples;
 
@@ -24,6 +25,7 @@ pub use laws::{
     fronts, goes_on, held_once, items_once, same_history, settled_items, settles,
     shares_after_acts, slots_once, starts_alternate, steps_leave, waits,
 };
+pub use playing::{busy_turns, keeps_room, numbered, players, players_made};
 pub use together::{
     all_over, busy_behind_acts, busy_behind_steps, busy_in_share, busy_under_change, first_of_all,
     first_of_each, first_of_list, first_performed, first_step_by_step, free_behind_acts,
