@@ -31,3 +31,5 @@ pub mod SettlesShareLemmas
 pub mod SettlesItemLemmas
 pub mod SettlesReturnLemmas
 pub mod SettlesLemmas
+pub mod StartsLastLemmas
+pub mod WaitsOnLemmas

@@ -1,0 +1,31 @@
+// What a player in virtual time rests on: iterations last, waits go on, and somebody plays at the end.
+ghost use Rattle.std.specs.Prelude.{false, ◌≡◌, ◌<◌, ℕ, List, Contains, IsTrue};
+ghost use Rattle.std.specs.List.{list_all};
+ghost use Rattle.ld_base.specs.declared.act.Act.TheVariants.{Start};
+ghost use Rattle.ld_base.specs.declared.ask.Ask.TheVariants as asks;
+ghost use Rattle.ld_base.specs.declared.entry.Entry.{Entry};
+ghost use Rattle.ld_machine.specs.Moment.{last_moment};
+ghost use Rattle.ld_machine.specs.Plan.{Plan};
+ghost use Rattle.ld_machine.specs.State.{State};
+ghost use Rattle.ld_machine.specs.Effect.{state_after};
+ghost use Rattle.ld_machine.specs.Step.{IsStep, Result};
+ghost use Rattle.ld_machine.specs.Rehearsal.{is_rehearsed_entry};
+ghost use Rattle.ld_machine.specs.Wait.{wait_moment};
+ghost use Rattle.ld_machine.specs.WellTimed.{WellTimed};
+
+/// In a well timed plan an iteration that starts may last for some time.
+pub fn starts_last()
+    ensures { (plan : Plan) (state : State) (thread t : ℕ) (result : Result) (entry : Entry) (n user item until : ℕ) → WellTimed plan →
+        IsStep plan state thread asks.Act t result → Contains result.entries entry → entry.act ≡ Start n user item until → t < until }
+{}
+
+/// Before the last moment the moment to wait for is a later one.
+pub fn waits_on()
+    ensures { (plan : Plan) (state : State) (t : ℕ) → t < last_moment → t < wait_moment plan state t }
+{}
+
+/// Entries that a rehearsal may have command no stop.
+pub fn uncommanded()
+    ensures { (plan : Plan) (history : List Entry) → IsTrue (list_all is_rehearsed_entry history) →
+        (state_after plan history).stop_commanded ≡ false }
+{}
