@@ -33,3 +33,4 @@ pub mod SettlesReturnLemmas
 pub mod SettlesLemmas
 pub mod StartsLastLemmas
 pub mod WaitsOnLemmas
+pub mod SomeonePlaysLemmas

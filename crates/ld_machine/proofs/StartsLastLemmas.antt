@@ -47,13 +47,13 @@ test_held false value x h = absurd (cc)
 -- ---- the interval that a moment is in
 
 -- what a search finds is there and passes its test
-found_interval : (p : Interval → Bool) (i : Interval) (intervals : List Interval) → find p intervals ≡ Some i → In i intervals × (p i ≡ true)
-found_interval p i [] h = absurd (cc)
-found_interval p i (x ∷ rest) h =
-    let P : Bool → Type 0 = λ b. p x ≡ b → cond b (Some x) (find p rest) ≡ Some i → In i (x ∷ rest) × (p i ≡ true) in
+pub found_in : {A : Type 0} (p : A → Bool) (y : A) (xs : List A) → find p xs ≡ Some y → In y xs × (p y ≡ true)
+found_in p y [] h = absurd (cc)
+found_in {A} p y (x ∷ rest) h =
+    let P : Bool → Type 0 = λ b. p x ≡ b → cond b (Some x) (find p rest) ≡ Some y → In y (x ∷ rest) × (p y ≡ true) in
     let found : P (p x) = elim (p x) as P [
-      | true ↦ λ passes e. let same : x ≡ i = cc in subst (λ z. In z (x ∷ rest) × (p z ≡ true)) same (here, passes)
-      | false ↦ λ fails e. let later = found_interval p i rest e in (there later.0, later.1)
+      | true ↦ λ passes e. let same : x ≡ y = cc in subst (λ z. In z (x ∷ rest) × (p z ≡ true)) same (here, passes)
+      | false ↦ λ fails e. let later = found_in p y rest e in (there later.0, later.1)
     ] in found refl h
 
 -- what a choice gives is given by one of both
@@ -68,7 +68,7 @@ interval_found part [] slot t i h = absurd (cc)
 interval_found part (r ∷ rest) slot t i h =
     elim (either_gives (r.slot == slot) (find (is_within part t) r.intervals) (interval_at part rest slot t) i h) [
       | inl now ↦
-          let found = found_interval (is_within part t) i r.intervals now in
+          let found = found_in (is_within part t) i r.intervals now in
           (In-left i (flat_map (λ (q : RampingSlot). q.intervals) rest) found.0, not_over t (off_moment part i) (both_true _ (nat_lt t (off_moment part i)) found.1).1)
       | inr later ↦ let found = interval_found part rest slot t i later in (In-right i r.intervals found.0, found.1)
     ]
@@ -169,10 +169,10 @@ module _ (users : Users) (n : ℕ) (s : Scenario) (t : ℕ) (timed : IsWellTimed
 pub timed_at : (plan : Plan) (n : ℕ) (part : Part) → WellTimed plan → slice_get plan.parts n ≡ Some part → IsWellTimed part
 timed_at plan n part timed is = timed part (n, slice_get_within plan.parts n part is, get_or_from_slice_get plan.parts n part part is)
 
--- the act of an entry is one of the acts of the entries
-act_in : (entry : Entry) {entries : List Entry} → In entry entries → In entry.act (map (λ (e : Entry). e.act) entries)
-act_in entry here = here
-act_in entry (there more) = there (act_in entry more)
+-- the image of an element is one of the images
+pub map-In : {A B : Type 0} (f : A → B) (x : A) {xs : List A} → In x xs → In (f x) (map f xs)
+map-In f x here = here
+map-In f x (there more) = there (map-In f x more)
 
 -- entries of which one stands there are some
 there_are : (entry : Entry) {entries : List Entry} → In entry entries → entries ≢ []
@@ -188,5 +188,5 @@ start_in_step plan state thread t result entry n user item until timed step ther
     let part = stands_share state.controls plan.parts state.shares by.number by.scenario by.stands in
     move_lasts (users_of plan state) by.number by.scenario t (timed_at plan by.number by.scenario.part timed part.0) w.move
     (source_of (users_of plan state) by.number by.scenario t w.move by.enabled) entry.act
-    (subst (λ acts. In entry.act acts) (sym (acts_written plan state thread t result.entries w)) (act_in entry at))
+    (subst (λ acts. In entry.act acts) (sym (acts_written plan state thread t result.entries w)) (map-In (λ (e : Entry). e.act) entry at))
     n user item until starts

@@ -1,14 +1,16 @@
 // What a player in virtual time rests on: iterations last, waits go on, and somebody plays at the end.
-ghost use Rattle.std.specs.Prelude.{false, ◌≡◌, ◌<◌, ℕ, List, Contains, IsTrue};
+ghost use Rattle.std.specs.Prelude.{false, ◌≡◌, ◌<◌, ◌≤◌, ℕ, List, [], Contains, IsTrue, Some, slice_get};
 ghost use Rattle.std.specs.List.{list_all};
 ghost use Rattle.ld_base.specs.declared.act.Act.TheVariants.{Start};
 ghost use Rattle.ld_base.specs.declared.ask.Ask.TheVariants as asks;
 ghost use Rattle.ld_base.specs.declared.entry.Entry.{Entry};
 ghost use Rattle.ld_machine.specs.Moment.{last_moment};
 ghost use Rattle.ld_machine.specs.Plan.{Plan};
-ghost use Rattle.ld_machine.specs.State.{State};
+ghost use Rattle.ld_machine.specs.State.{all_closed, is_busy, HeldUser, Share, State};
+ghost use Rattle.ld_machine.specs.Moves.{enabled};
 ghost use Rattle.ld_machine.specs.Effect.{state_after};
 ghost use Rattle.ld_machine.specs.Step.{IsStep, Result};
+ghost use Rattle.ld_machine.specs.History.{IsLegal};
 ghost use Rattle.ld_machine.specs.Rehearsal.{is_rehearsed_entry};
 ghost use Rattle.ld_machine.specs.Wait.{wait_moment};
 ghost use Rattle.ld_machine.specs.WellTimed.{WellTimed};
@@ -28,4 +30,14 @@ pub fn waits_on()
 pub fn uncommanded()
     ensures { (plan : Plan) (history : List Entry) → IsTrue (list_all is_rehearsed_entry history) →
         (state_after plan history).stop_commanded ≡ false }
+{}
+
+/// Where nothing is enabled at the end of all moments behind a legal history without a commanded stop,
+/// and some scenario is open, somebody plays.
+pub fn someone_plays()
+    ensures { (plan : Plan) (history : List Entry) (t : ℕ) → WellTimed plan → IsLegal plan history →
+        (state_after plan history).stop_commanded ≡ false → all_closed (state_after plan history) ≡ false → last_moment ≤ t →
+        enabled plan (state_after plan history) t ≡ [] →
+        (n : ℕ) × (share : Share) × (h : HeldUser) × (slice_get (state_after plan history).shares n ≡ Some share)
+        × Contains share.held h × IsTrue (is_busy h) }
 {}
