@@ -14,7 +14,7 @@ use Rattle.ld_machine.specs.Order.{is_before, place_of, first_moves}
 use Rattle.ld_machine.specs.Wait.{wait_moment}
 use Rattle.ld_machine.specs.Step.{answered, move_result, open_results, act_results}
 use Rattle.ld_machine.specs.Together.{IsActOf, NoneBefore, NoneActs}
-use Rattle.ld_machine.proofs.ListLemmas.{In, here, there, nothing_in, In-filter, filter-In, In-from_any, any-from_In, In-from_Contains, Contains-from_In, In-flat_map, In-enumerate, all_at}
+use Rattle.ld_machine.proofs.ListLemmas.{In, here, there, nothing_in, In-filter, filter-In, In-from_any, any-from_In, map-In, In-from_Contains, Contains-from_In, In-flat_map, In-enumerate, all_at}
 use Rattle.ld_machine.proofs.OrderLemmas.{before_itself, before_along, one_place, is_beaten}
 use Rattle.ld_machine.proofs.StopLemmas.{no_take, no_start, no_drop}
 use Rattle.ld_machine.proofs.WaitLemmas.{flat_map-In}
@@ -177,10 +177,6 @@ module _ (plan : Plan) (state : State) (t : ℕ) where
   performed_in : (thread : ℕ) (m : Move) (ms : List Move) → In m ms → In (move_result plan state thread t m) (open_results plan state thread t ms)
   performed_in thread m [] h = absurd (nothing_in h)
   performed_in thread m (x ∷ xs) h = map-In (move_result plan state thread t) m h
-    where
-      map-In : {A B : Type 0} (f : A → B) (x : A) {xs : List A} → In x xs → In (f x) (map f xs)
-      map-In f x here = here
-      map-In f x (there more) = there (map-In f x more)
 
   pub first_performed : (thread : ℕ) (m : Move) → In m (first_moves plan state t) → In (move_result plan state thread t m) (act_results plan state thread t)
   first_performed thread m h =

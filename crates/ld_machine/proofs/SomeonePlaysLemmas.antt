@@ -1,5 +1,5 @@
 -- Where nothing is enabled at the end of all moments, an open scenario holds a user that plays.
-use Rattle.std.proofs.Common.{Contains, ◌≡◌, ◌<◌, ◌≤◌, ℕ, zero, suc, Bool, true, false, not, cond, ◌&&◌, ◌||◌, ◌==◌, nat_le, List, [], ◌∷◌, ◌++◌, ◌⊎◌, inl, inr, Option, None, Some, find, length, map, filter, flat_map, arith, refl, sym, ap, ◌∙◌, subst, slice_get}
+use Rattle.std.proofs.Common.{Contains, ◌≡◌, ◌<◌, ◌≤◌, ℕ, suc, Bool, true, false, cond, ◌&&◌, nat_le, List, [], ◌∷◌, ◌++◌, ◌⊎◌, inl, inr, Option, None, Some, find, map, filter, flat_map, arith, refl, sym, subst, slice_get}
 use Rattle.std.proofs.lemmas.Grind.{common_steps}
 use Rattle.std.specs.Prelude.{is_some, option_map, option_to_list}
 use Rattle.std.specs.List.{list_all}
@@ -7,18 +7,18 @@ use Rattle.std.specs.Option.{option_map_or}
 use Rattle.ld_base.specs.declared.entry.Entry.{Entry}
 use Rattle.ld_machine.specs.Moment.{last_moment}
 use Rattle.ld_machine.specs.Plan.{Interval, RampingSlot, Arrival, Executor, SharedIterations, PerVuIterations, ConstantVus, RampingVus, ArrivalRate, ExternallyControlled, Part, Plan, off_moment, due_moment, hard_moment, owned_items}
-use Rattle.ld_machine.specs.State.{Condition, Idle, Busy, HeldUser, Share, State, is_idle, is_busy, idle_users, all_closed, opening}
-use Rattle.ld_machine.specs.Scenario.{Scenario, first_of, is_open, level_runs, runs, has_begun, has_ended, is_open_item, open_items, least_open_item, has_open_item, interval_at, is_slot_on, executor_may_release, may_release, executor_item_to_drop, item_to_drop, holds_nobody, executor_may_close, may_close, executor_arrivals, least_open_arrival, is_due, due_arrival}
-use Rattle.ld_machine.specs.Moves.{Answer, CountLate, Move, ReleaseUser, AnswerArrival, DropIteration, CloseScenario, Users, users_of, answers, stops, releases, takes, answers_to, arrivals, starts, drops, closes, moves_of, scenarios, enabled}
+use Rattle.ld_machine.specs.State.{Condition, Idle, Busy, HeldUser, Share, is_idle, is_busy, idle_users, all_closed}
+use Rattle.ld_machine.specs.Scenario.{Scenario, first_of, is_open, level_runs, runs, has_begun, has_ended, is_open_item, least_open_item, has_open_item, interval_at, is_slot_on, executor_may_release, may_release, executor_item_to_drop, item_to_drop, holds_nobody, executor_may_close, may_close, executor_arrivals, least_open_arrival, is_due, due_arrival}
+use Rattle.ld_machine.specs.Moves.{CountLate, Move, ReleaseUser, AnswerArrival, DropIteration, CloseScenario, Users, users_of, answers, stops, releases, takes, answers_to, arrivals, starts, drops, closes, moves_of, enabled}
 use Rattle.ld_machine.specs.Effect.{state_after}
 use Rattle.ld_machine.specs.History.{IsLegal}
 use Rattle.ld_machine.specs.WellTimed.{executor_intervals, IsWellTimed, WellTimed}
-use Rattle.ld_machine.proofs.ListLemmas.{In, here, there, nothing_in, filter-In, Contains-from_In, some_not_none}
+use Rattle.ld_machine.proofs.ListLemmas.{In, here, nothing_in, filter-In, map-In, found_in, Contains-from_In}
 use Rattle.ld_machine.proofs.WaitLemmas.{In-left, In-right}
 use Rattle.ld_machine.proofs.FirstOfAllLemmas.{act_enabled}
 use Rattle.ld_machine.proofs.ScenarioListLemmas.{stands_with}
 use Rattle.ld_machine.proofs.SettlesShareLemmas.{Running, AllRunning, history_running}
-use Rattle.ld_machine.proofs.StartsLastLemmas.{found_in, map-In, interval_found, timed_at}
+use Rattle.ld_machine.proofs.StartsLastLemmas.{interval_found, timed_at}
 
 no_later : (m t : ℕ) → m ≤ t → nat_le m t ≡ true
 no_later m t h = grind (arith, common_steps)

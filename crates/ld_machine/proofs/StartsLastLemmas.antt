@@ -1,6 +1,5 @@
 -- An iteration that starts in a well timed plan may last for some time.
-use Rattle.std.proofs.Common.{Contains, ◌≡◌, ◌≢◌, ◌<◌, ◌≤◌, ◌&&◌, ◌==◌, ℕ, Bool, true, false, not, cond, nat_le, nat_lt, List, [], ◌∷◌, ◌++◌, Option, None, Some, find, map, flat_map, min, arith, refl, sym, ap, ◌∙◌, subst, ◌⊎◌, inl, inr, slice_get}
-use Rattle.std.proofs.lemmas.Bool.{true≢false}
+use Rattle.std.proofs.Common.{Contains, ◌≡◌, ◌≢◌, ◌<◌, ◌≤◌, ◌&&◌, ◌==◌, ℕ, Bool, true, false, not, cond, nat_le, nat_lt, List, [], ◌∷◌, Option, None, Some, find, flat_map, min, arith, refl, sym, subst, ◌⊎◌, inl, inr, slice_get}
 use Rattle.std.proofs.lemmas.Grind.{common_steps}
 use Rattle.std.proofs.lemmas.Option.{slice_get_within, get_or_from_slice_get}
 use Rattle.std.specs.Prelude.{is_some}
@@ -10,18 +9,18 @@ use Rattle.ld_base.specs.declared.act.Act.TheVariants.{Take, Grow, Start}
 use Rattle.ld_base.specs.declared.ask.Ask.TheVariants as asks
 use Rattle.ld_base.specs.declared.entry.Entry.{Entry}
 use Rattle.ld_machine.specs.Moment.{moment_after, last_moment}
-use Rattle.ld_machine.specs.Plan.{Interval, RampingSlot, Arrival, Executor, SharedIterations, PerVuIterations, ConstantVus, RampingVus, ArrivalRate, ExternallyControlled, Part, Plan, hard_moment, on_moment, off_moment, interval_hard_moment}
-use Rattle.ld_machine.specs.State.{HeldUser, State, idle_users}
-use Rattle.ld_machine.specs.Scenario.{Scenario, first_of, where_holds, runs, has_begun, has_ended, is_live, is_within, interval_at, is_slot_on, executor_item_to_start, executor_until, until_of, due_arrival}
-use Rattle.ld_machine.specs.Moves.{Answer, CountLate, StartOn, GrowAndStart, TakeAndStart, DropArrival, Move, Users, users_of, answers, scenarios}
+use Rattle.ld_machine.specs.Plan.{Interval, RampingSlot, Executor, SharedIterations, PerVuIterations, ConstantVus, RampingVus, ArrivalRate, ExternallyControlled, Part, Plan, hard_moment, off_moment, interval_hard_moment}
+use Rattle.ld_machine.specs.State.{State}
+use Rattle.ld_machine.specs.Scenario.{Scenario, where_holds, runs, has_begun, has_ended, is_live, is_within, interval_at, is_slot_on, executor_item_to_start, executor_until, until_of}
+use Rattle.ld_machine.specs.Moves.{Answer, CountLate, StartOn, GrowAndStart, TakeAndStart, DropArrival, Move, Users, users_of, answers}
 use Rattle.ld_machine.specs.Acts.{acts_of}
-use Rattle.ld_machine.specs.Step.{Result, IsStep, results, act_results}
+use Rattle.ld_machine.specs.Step.{Result, IsStep}
 use Rattle.ld_machine.specs.WellTimed.{executor_intervals, IsWellTimed, WellTimed}
 use Rattle.ld_machine.specs.Same.{same_entries}
-use Rattle.ld_machine.proofs.ListLemmas.{In, here, there, nothing_in, any-from_In, Contains-from_In, In-one, in_two, both_true, some_not_none}
+use Rattle.ld_machine.proofs.ListLemmas.{In, nothing_in, any-from_In, map-In, found_in, Contains-from_In, In-one, in_two, both_true}
 use Rattle.ld_machine.proofs.SameLemmas.{itself_entries}
 use Rattle.ld_machine.proofs.SourceLemmas.{Source, by_stop, by_release, by_take, by_arrival, by_start, by_drop, by_close, In-cond, source_of}
-use Rattle.ld_machine.proofs.StepLemmas.{Wrote, act_wrote, first_enabled}
+use Rattle.ld_machine.proofs.StepLemmas.{act_wrote, first_enabled}
 use Rattle.ld_machine.proofs.TurnLemmas.{acts_written}
 use Rattle.ld_machine.proofs.ItemLemmas.{stands_share}
 use Rattle.ld_machine.proofs.FirstOfAllLemmas.{In-of, is_not}
@@ -45,16 +44,6 @@ test_held true value x h = refl
 test_held false value x h = absurd (cc)
 
 -- ---- the interval that a moment is in
-
--- what a search finds is there and passes its test
-pub found_in : {A : Type 0} (p : A → Bool) (y : A) (xs : List A) → find p xs ≡ Some y → In y xs × (p y ≡ true)
-found_in p y [] h = absurd (cc)
-found_in {A} p y (x ∷ rest) h =
-    let P : Bool → Type 0 = λ b. p x ≡ b → cond b (Some x) (find p rest) ≡ Some y → In y (x ∷ rest) × (p y ≡ true) in
-    let found : P (p x) = elim (p x) as P [
-      | true ↦ λ passes e. let same : x ≡ y = cc in subst (λ z. In z (x ∷ rest) × (p z ≡ true)) same (here, passes)
-      | false ↦ λ fails e. let later = found_in p y rest e in (there later.0, later.1)
-    ] in found refl h
 
 -- what a choice gives is given by one of both
 either_gives : (b : Bool) (x y : Option Interval) (i : Interval) → cond b x y ≡ Some i → (x ≡ Some i) ⊎ (y ≡ Some i)
@@ -168,11 +157,6 @@ module _ (users : Users) (n : ℕ) (s : Scenario) (t : ℕ) (timed : IsWellTimed
 -- a scenario of a well timed plan is well timed
 pub timed_at : (plan : Plan) (n : ℕ) (part : Part) → WellTimed plan → slice_get plan.parts n ≡ Some part → IsWellTimed part
 timed_at plan n part timed is = timed part (n, slice_get_within plan.parts n part is, get_or_from_slice_get plan.parts n part part is)
-
--- the image of an element is one of the images
-pub map-In : {A B : Type 0} (f : A → B) (x : A) {xs : List A} → In x xs → In (f x) (map f xs)
-map-In f x here = here
-map-In f x (there more) = there (map-In f x more)
 
 -- entries of which one stands there are some
 there_are : (entry : Entry) {entries : List Entry} → In entry entries → entries ≢ []

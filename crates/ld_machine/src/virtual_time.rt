@@ -1,5 +1,5 @@
 // What a player in virtual time rests on: iterations last, waits go on, and somebody plays at the end.
-ghost use Rattle.std.specs.Prelude.{false, ◌≡◌, ◌<◌, ◌≤◌, ℕ, List, [], Contains, IsTrue, Some, slice_get};
+ghost use Rattle.std.specs.Prelude.{false, ◌≡◌, ◌<◌, ◌≤◌, ℕ, List, [], Contains, IsTrue, Some, slice_get, take};
 ghost use Rattle.std.specs.List.{list_all};
 ghost use Rattle.ld_base.specs.declared.act.Act.TheVariants.{Start};
 ghost use Rattle.ld_base.specs.declared.ask.Ask.TheVariants as asks;
@@ -14,6 +14,8 @@ ghost use Rattle.ld_machine.specs.History.{IsLegal};
 ghost use Rattle.ld_machine.specs.Rehearsal.{is_rehearsed_entry};
 ghost use Rattle.ld_machine.specs.Wait.{wait_moment};
 ghost use Rattle.ld_machine.specs.WellTimed.{WellTimed};
+ghost use Rattle.ld_machine.specs.Examples.{arrival_plan};
+ghost use Rattle.ld_machine.specs.FurtherExamples.{ramping_plan, ramping_done};
 
 /// In a well timed plan an iteration that starts may last for some time.
 pub fn starts_last()
@@ -40,4 +42,14 @@ pub fn someone_plays()
         enabled plan (state_after plan history) t ≡ [] →
         (n : ℕ) × (share : Share) × (h : HeldUser) × (slice_get (state_after plan history).shares n ≡ Some share)
         × Contains share.held h × IsTrue (is_busy h) }
+{}
+
+/// Two plans that are well timed. In one of them a user that has begun and not returned plays at the end of
+/// all moments, where nothing is enabled and its scenario is open.
+pub fn well_timed_plans()
+    ensures arrivals { WellTimed (arrival_plan 1) }
+    ensures ramping { WellTimed ramping_plan }
+    ensures legal { IsLegal ramping_plan (take 2 ramping_done) }
+    ensures still_open { all_closed (state_after ramping_plan (take 2 ramping_done)) ≡ false }
+    ensures nothing_enabled { enabled ramping_plan (state_after ramping_plan (take 2 ramping_done)) last_moment ≡ [] }
 {}
