@@ -19,7 +19,7 @@ use Rattle.ld_machine.specs.Step.{entries_of}
 use Rattle.ld_machine.specs.History.{adds_one, adds_two, are_steps}
 use Rattle.ld_machine.specs.OnTime.{is_asked_act}
 use Rattle.ld_machine.specs.Drops.{nobody_for_arrival, executor_drop_allowed, drop_or_late_allowed, drops_allowed_from}
-use Rattle.ld_machine.proofs.ListLemmas.{both_true, some_true, number_itself}
+use Rattle.ld_machine.proofs.ListLemmas.{found_in, both_true, some_true, number_itself}
 use Rattle.ld_machine.proofs.SourceLemmas.{Source, by_stop, by_release, by_take, by_arrival, by_start, by_drop, by_close, source_of, late_answer, drop_answer, grow_answer}
 use Rattle.ld_machine.proofs.StepLemmas.{first_enabled, Wrote, one_wrote, pair_wrote}
 
@@ -39,16 +39,6 @@ numbers_differ m n p pm pn =
       | true ↦ λ e. let same : m ≡ n = grind (arith, common_steps) in absurd (true≢false (sym pn ∙ ap p (sym same) ∙ pm))
     ] in tested refl
 
--- what a search finds passes its test
-found_passes : (p : Arrival → Bool) (a : Arrival) (arrivals : List Arrival) → find p arrivals ≡ Some a → p a ≡ true
-found_passes p a [] h = absurd (cc)
-found_passes p a (x ∷ rest) h =
-    let P : Bool → Type 0 = λ b. p x ≡ b → cond b (Some x) (find p rest) ≡ Some a → p a ≡ true in
-    let found : P (p x) = elim (p x) as P [
-      | true ↦ λ passes e. let same : x ≡ a = cc in subst (λ z. p z ≡ true) same passes
-      | false ↦ λ fails e. found_passes p a rest e
-    ] in found refl h
-
 -- the first of some arrivals that is open is the first of its item
 find_its_item : (s : Scenario) (a : Arrival) (arrivals : List Arrival) → find (λ (x : Arrival). is_open_item s x.item) arrivals ≡ Some a →
     find (λ (x : Arrival). x.item == a.item) arrivals ≡ Some a
@@ -62,7 +52,7 @@ find_its_item s a (x ∷ rest) h =
           subst (λ (z : Arrival). cond (x.item == z.item) (Some x) (find (λ (y : Arrival). y.item == z.item) rest) ≡ Some z) same (rw (number_itself x.item) refl)
       | false ↦ λ shut e.
           let later = find_its_item s a rest e in
-          let opened : is_open_item s a.item ≡ true = found_passes (λ (y : Arrival). is_open_item s y.item) a rest e in
+          let opened : is_open_item s a.item ≡ true = (found_in (λ (y : Arrival). is_open_item s y.item) a rest e).1 in
           rw (numbers_differ x.item a.item (is_open_item s) shut opened) later
     ] in found refl h
 
@@ -71,7 +61,7 @@ due_in : (s : Scenario) (t : ℕ) (a : Arrival) (running : Bool) (least : Option
 due_in s t a false least h = absurd (cc)
 due_in s t a true None h = absurd (cc)
 due_in s t a true (Some x) h =
-    let due = found_passes (is_due s t) a (x ∷ []) h in
+    let due = (found_in (is_due s t) a (x ∷ []) h).1 in
     let P : Bool → Type 0 = λ b. cond b (Some x) None ≡ Some a → Some x ≡ Some a in
     let same : P (is_due s t x) = elim (is_due s t x) as P [ true ↦ λ e. e | false ↦ λ e. absurd (cc) ] in
     (same h, due)

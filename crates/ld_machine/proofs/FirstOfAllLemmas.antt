@@ -14,7 +14,7 @@ use Rattle.ld_machine.specs.Order.{is_before, place_of, first_moves}
 use Rattle.ld_machine.specs.Wait.{wait_moment}
 use Rattle.ld_machine.specs.Step.{answered, move_result, open_results, act_results}
 use Rattle.ld_machine.specs.Together.{IsActOf, NoneBefore, NoneActs}
-use Rattle.ld_machine.proofs.ListLemmas.{In, here, there, nothing_in, In-filter, filter-In, In-from_any, any-from_In, In-from_Contains, Contains-from_In, In-flat_map, In-enumerate, all_at}
+use Rattle.ld_machine.proofs.ListLemmas.{In, here, there, nothing_in, In-filter, filter-In, In-from_any, any-from_In, map-In, In-from_Contains, Contains-from_In, In-flat_map, In-enumerate, all_at}
 use Rattle.ld_machine.proofs.OrderLemmas.{before_itself, before_along, one_place, is_beaten}
 use Rattle.ld_machine.proofs.StopLemmas.{no_take, no_start, no_drop}
 use Rattle.ld_machine.proofs.WaitLemmas.{flat_map-In}

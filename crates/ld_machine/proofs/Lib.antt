@@ -35,3 +35,6 @@ pub mod PlayingLemmas
 pub mod PlayersLemmas
 pub mod NumberedLemmas
 pub mod KeepsRoomLemmas
+pub mod StartsLastLemmas
+pub mod WaitsOnLemmas
+pub mod SomeonePlaysLemmas

@@ -1,5 +1,5 @@
 -- Elements of lists, what tests, filters and maps make of them, and facts of numbers and options.
-use Rattle.std.proofs.Common.{Contains, ◌≡◌, ◌==◌, ◌<◌, ◌+◌, ℕ, suc, zero, Bool, true, false, cond, ◌&&◌, ◌||◌, List, [], ◌∷◌, ◌++◌, ◌⊎◌, inl, inr, get_or, length, map, arith, refl, sym, subst, filter, flat_map, filter_map, Option, Some, None, slice_get}
+use Rattle.std.proofs.Common.{Contains, ◌≡◌, ◌==◌, ◌<◌, ◌+◌, ℕ, suc, zero, Bool, true, false, cond, ◌&&◌, ◌||◌, List, [], ◌∷◌, ◌++◌, ◌⊎◌, inl, inr, get_or, length, map, arith, refl, sym, subst, filter, find, flat_map, filter_map, Option, Some, None, slice_get}
 use Rattle.std.specs.List.{list_any, list_all, enumerate_from, cons_option}
 use Rattle.std.proofs.lemmas.Grind.{common_steps}
 
@@ -61,6 +61,21 @@ pub In-map : {A B : Type 0} (f : A → B) (y : B) (xs : List A) → In y (map f 
 In-map f y [] h = elim h [ ]
 In-map f y (x ∷ xs) here = (x, here, refl)
 In-map f y (x ∷ xs) (there more) = let found = In-map f y xs more in (found.0, there found.1, found.2)
+
+-- and the image of an element is one of the images
+pub map-In : {A B : Type 0} (f : A → B) (x : A) {xs : List A} → In x xs → In (f x) (map f xs)
+map-In f x here = here
+map-In f x (there more) = there (map-In f x more)
+
+-- what a search finds is there, and passes
+pub found_in : {A : Type 0} (p : A → Bool) (y : A) (xs : List A) → find p xs ≡ Some y → In y xs × (p y ≡ true)
+found_in p y [] h = absurd (cc)
+found_in {A} p y (x ∷ rest) h =
+    let P : Bool → Type 0 = λ b. p x ≡ b → cond b (Some x) (find p rest) ≡ Some y → In y (x ∷ rest) × (p y ≡ true) in
+    let found : P (p x) = elim (p x) as P [
+      | true ↦ λ passes e. let same : x ≡ y = cc in subst (λ z. In z (x ∷ rest) × (p z ≡ true)) same (here, passes)
+      | false ↦ λ fails e. let later = found_in p y rest e in (there later.0, later.1)
+    ] in found refl h
 
 -- an element of two lists in a row is one of either
 pub In-append : {A : Type 0} (x : A) (xs ys : List A) → In x (xs ++ ys) → In x xs ⊎ In x ys

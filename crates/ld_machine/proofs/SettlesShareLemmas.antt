@@ -294,7 +294,7 @@ two_running plan state one two all h =
 -- ---- whole histories
 
 -- a commanded stop stays so
-end_of_stop : (plan : Plan) (n item : ℕ) (state : State) → (end_item_of plan n item state).stop_commanded ≡ state.stop_commanded
+pub end_of_stop : (plan : Plan) (n item : ℕ) (state : State) → (end_item_of plan n item state).stop_commanded ≡ state.stop_commanded
 end_of_stop plan n item state =
     let P : Option Part → Type 0 = λ o. (option_map_or (λ part. change_share state n (end_item part item)) o state).stop_commanded ≡ state.stop_commanded in
     elim (slice_get plan.parts n) as P [ None ↦ refl | Some part ↦ refl ]

@@ -10,6 +10,7 @@ mod further_examples;
 mod laws;
 mod playing;
 mod together;
+mod virtual_time;
 mod wish_examples;
 
 pub use examples::{
@@ -34,4 +35,5 @@ pub use together::{
     next_candidate_of_parts, nothing_first, order_of_places, room_behind_steps, room_under_change,
     scenarios_stand, scenarios_under_change, two_together, users_of_acts, well_held,
 };
+pub use virtual_time::{someone_plays, starts_last, uncommanded, waits_on, well_timed_plans};
 pub use wish_examples::{wishes, wishes_at_the_end};
