@@ -47,11 +47,6 @@ before_once a b ab = false_unless (is_before b a) (λ ba. true≢false (sym (bef
 
 -- ---- acts of scenarios
 
--- an element's image is one of the images
-pub map-In : {A B : Type 0} (f : A → B) (x : A) {xs : List A} → In x xs → In (f x) (map f xs)
-map-In f x here = here
-map-In f x (there more) = there (map-In f x more)
-
 pub In-of : {A : Type 0} {x : A} {xs : List A} → Contains xs x → In x xs
 In-of {A} {x} {xs} h = In-from_Contains x xs h.0 h.1 h.2
 

@@ -16,12 +16,11 @@ use Rattle.ld_machine.specs.Effect.{with_user, if_user, hold, put_condition, let
 use Rattle.ld_machine.specs.Step.{is_busy_with, is_out}
 use Rattle.ld_machine.specs.History.{adds_one, adds_two, are_steps, IsLegal}
 use Rattle.ld_machine.specs.Playing.{Play, play_behind, play_after, play_of, stint_of_play}
-use Rattle.ld_machine.proofs.ListLemmas.{In, here, In-from_any, any-from_In, both_true, some_true, number_itself}
+use Rattle.ld_machine.proofs.ListLemmas.{In, here, In-from_any, any-from_In, both_true, some_true, number_itself, map-In}
 use Rattle.ld_machine.proofs.StepLemmas.{pair_wrote}
 use Rattle.ld_machine.proofs.HolderLemmas.{Holds, wrote_gains, entry_holds, two_hold, opening_holds}
 use Rattle.ld_machine.proofs.BusyLemmas.{once_same, same_number, held_stop, held_end_item}
 use Rattle.ld_machine.proofs.BusyStepLemmas.{change_stands, with_there}
-use Rattle.ld_machine.proofs.FirstOfAllLemmas.{map-In}
 use Rattle.ld_machine.proofs.FreeLemmas.{among_held}
 use Rattle.ld_machine.proofs.TurnLemmas.{among_there, touches, HeldAs, Finds, one_finds, one_holds, pair_of}
 
