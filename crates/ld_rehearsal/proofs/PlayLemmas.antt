@@ -153,25 +153,25 @@ turn_returns (x ∷ rest) e user play alternate h turn =
           turn_returns rest e user play both.1 (settled_by_turn user None (play_behind user x.thread x.reading x.act None) rest found some ∙ h) turn
     ] in go refl
 
-alone_before : (act : Act) (rest : List Entry) (e : Entry) → is_played_alone act (rest ++ e ∷ []) ≡ true → is_played_alone act rest ≡ true
-alone_before (Start n user item until) rest e h =
+alone_front : (act : Act) (rest back : List Entry) → is_played_alone act (rest ++ back) ≡ true → is_played_alone act rest ≡ true
+alone_front (Start n user item until) rest back h =
     let its : Entry → Bool = λ entry. is_its_return n user item entry.act in
-    let P : Option Entry → Type 0 = λ o. option_map_or its (option_or o (next_turn user (e ∷ []))) true ≡ true → option_map_or its o true ≡ true in
+    let P : Option Entry → Type 0 = λ o. option_map_or its (option_or o (next_turn user back)) true ≡ true → option_map_or its o true ≡ true in
     let go : P (next_turn user rest) = elim (next_turn user rest) as P [ None ↦ λ at. refl | Some found ↦ λ at. at ] in
-    go (subst (λ (o : Option Entry). option_map_or its o true ≡ true) (find-append (λ (entry : Entry). is_turn_of user entry.act) rest (e ∷ [])) h)
-alone_before (Take n user slot) rest e h = refl
-alone_before (Grow n user slot) rest e h = refl
-alone_before (Drop n item) rest e h = refl
-alone_before (Late n item) rest e h = refl
-alone_before (Return n user item outcome tally) rest e h = refl
-alone_before (Release n user) rest e h = refl
-alone_before (Stop n) rest e h = refl
-alone_before (Close n) rest e h = refl
-alone_before (Control command) rest e h = refl
+    go (subst (λ (o : Option Entry). option_map_or its o true ≡ true) (find-append (λ (entry : Entry). is_turn_of user entry.act) rest back) h)
+alone_front (Take n user slot) rest back h = refl
+alone_front (Grow n user slot) rest back h = refl
+alone_front (Drop n item) rest back h = refl
+alone_front (Late n item) rest back h = refl
+alone_front (Return n user item outcome tally) rest back h = refl
+alone_front (Release n user) rest back h = refl
+alone_front (Stop n) rest back h = refl
+alone_front (Close n) rest back h = refl
+alone_front (Control command) rest back h = refl
 
--- turns alternate in a history without its last entry
-pub alternate_before : (history : List Entry) (e : Entry) → starts_alternate (history ++ e ∷ []) ≡ true → starts_alternate history ≡ true
-alternate_before [] e h = refl
-alternate_before (x ∷ rest) e h =
-    let both = both_true (is_played_alone x.act (rest ++ e ∷ [])) (starts_alternate (rest ++ e ∷ [])) h in
-    rw (alone_before x.act rest e both.0) (alternate_before rest e both.1)
+-- turns alternate in a front of a history
+pub alternate_front : (front back : List Entry) → starts_alternate (front ++ back) ≡ true → starts_alternate front ≡ true
+alternate_front [] back h = refl
+alternate_front (x ∷ rest) back h =
+    let both = both_true (is_played_alone x.act (rest ++ back)) (starts_alternate (rest ++ back)) h in
+    rw (alone_front x.act rest back both.0) (alternate_front rest back both.1)

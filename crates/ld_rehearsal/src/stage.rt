@@ -32,6 +32,7 @@ pub struct Stage {
 
 impl Stage {
     ghost use Rattle.std.specs.Prelude.{◌≡◌, ◌≤◌, ◌<◌, ◌+◌, ◌-◌, false, true, Some, IfOk, IfErr, length, slice_set};
+    ghost use Rattle.ld_machine.specs.Moment.{last_moment};
     ghost use Rattle.ld_machine.specs.Rehearsal.{IsRefusedAt};
     ghost use Rattle.ld_rehearsal.specs.Dues.{due_of, play_at};
     ghost use Rattle.ld_rehearsal.specs.Stage.{full_reply, stage_plan, stage_state, IsActing, IsAnswered, IsDue, IsEnded, IsOpened, IsPaused, IsReturning, IsRound, IsSameMoment, IsSameRun, MayReturn};
@@ -88,7 +89,8 @@ impl Stage {
     fn begin(&mut self, stint: Stint)
         requires some { 1 ≤ stint.user }
         requires within { stint.user ≤ length self.old.dues }
-        ensures { self.new ≡ record self.old { dues = slice_set self.old.dues (stint.user - 1) (Some (due_of self.old.length (play_at self.old.moment stint))) } }
+        ensures until { stint.until ≤ last_moment }
+        ensures begun { self.new ≡ record self.old { dues = slice_set self.old.dues (stint.user - 1) (Some (due_of self.old.length (play_at self.old.moment stint))) } }
     {
         let fits = self.moment.saturating_add(self.length);
         let due = Due {
