@@ -5,3 +5,4 @@ pub mod ReplyLemmas
 pub mod PlayedLemmas
 pub mod DueLemmas
 pub mod StageLemmas
+pub mod ReturnLemmas

@@ -46,7 +46,7 @@ use Rattle.ld_rehearsal.proofs.ReplyLemmas.{ActStep, act_plays, act_step, act_wr
 abbrev pub with_entries : Stage → List Entry → Stage
 with_entries stage entries = record stage { core = record { plan = stage.core.plan; entries = stage.core.entries ++ entries } }
 
-core_is : (core : CoreView) (plan : PlanView) (entries : List Entry) → core.plan ≡ plan → core.entries ≡ entries → core ≡ record { plan = plan; entries = entries }
+pub core_is : (core : CoreView) (plan : PlanView) (entries : List Entry) → core.plan ≡ plan → core.entries ≡ entries → core ≡ record { plan = plan; entries = entries }
 core_is core plan entries p e = rw (← p, ← e) refl
 
 -- ---- a stint that is handed out
