@@ -6,3 +6,4 @@ pub mod PlayedLemmas
 pub mod DueLemmas
 pub mod StageLemmas
 pub mod ReturnLemmas
+pub mod RoundLemmas

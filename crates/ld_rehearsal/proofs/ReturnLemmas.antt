@@ -20,15 +20,19 @@ use Rattle.ld_machine.specs.History.{IsLegal}
 use Rattle.ld_machine.specs.Playing.{Play, play_after, play_behind, play_of, stint_of_play}
 use Rattle.ld_machine.specs.Rehearsal.{is_rehearsed_entry, is_return, may_follow, returned_user}
 use Rattle.ld_machine.specs.Room.{script_room}
+use Rattle.ld_machine.specs.State.{busy_count}
 use Rattle.ld_machine.specs.Step.{Result, is_out}
+use Rattle.ld_machine.proofs.KeepsRoomLemmas.{legal_room}
 use Rattle.ld_machine.proofs.LegalLemmas.{goes_on_legally}
 use Rattle.ld_machine.proofs.ListLemmas.{both_true, number_itself, some_not_none}
 use Rattle.ld_machine.proofs.PlayersLemmas.{player_made}
 use Rattle.ld_machine.proofs.PlayingLemmas.{legal_matches}
+use Rattle.ld_plan.specs.PlanView.{PlanView}
 use Rattle.ld_rehearsal.specs.Dues.{due_at, due_in, due_of}
 use Rattle.ld_rehearsal.specs.Played.{may_come}
-use Rattle.ld_rehearsal.specs.Stage.{full_reply, playing, stage_plan, stage_state, IsActing, IsDue, IsReturning, IsStage, MayReturn}
+use Rattle.ld_rehearsal.specs.Stage.{full_reply, playing, stage_plan, stage_state, IsActing, IsAnswered, IsDue, IsReturning, IsSameMoment, IsStage, MayReturn}
 use Rattle.ld_rehearsal.specs.declared.due.Due.{Due}
+use Rattle.ld_rehearsal.specs.declared.stage.Said.TheVariants.{Acted}
 use Rattle.ld_rehearsal.specs.declared.stage.Stage.{Stage}
 use Rattle.ld_rehearsal.proofs.DueLemmas.{due_changed}
 use Rattle.ld_rehearsal.proofs.GrowLemmas.{may_come_behind}
@@ -244,3 +248,27 @@ all_returned stage may =
     ] in
     record { stage_is = unblocked returning; ends = λ user due is. returning.below user due is (within user due is) }
 
+
+-- what else is found in the table is the same
+pub found_later : (t : ℕ) (o : Option Due) (one : Due) → o ≡ Some one → t < one.end → (due : Due) → o ≡ Some due → t < due.end
+found_later t o one is later due at =
+    let same : one.end ≡ due.end = ap (λ (x : Option Due). option_map_or (λ (d : Due). d.end) x 0) (sym is ∙ at) in omega arith
+
+pub same_moments : (a b c : Stage) → IsSameMoment a b → IsSameMoment b c → IsSameMoment a c
+same_moments a b c one two =
+    record { run = record { plan = two.run.plan ∙ one.run.plan; length = two.run.length ∙ one.run.length }; moment = two.moment ∙ one.moment; full = two.full ∙ one.full }
+
+-- the last user was looked at
+pub all_looked_at : (old stage : Stage) (before limit : ℕ) → IsSameMoment old stage → MayReturn stage (before + 1) → limit ≡ (stage_plan old).limit → before ≤ limit → limit ≤ before → IsActing stage
+all_looked_at old stage before limit same may is low high =
+    let plans : (stage_plan old).limit ≡ (stage_plan stage).limit = ap (λ (p : PlanView). p.plan.limit) (sym same.run.plan) in
+    let reach : before + 1 ≡ (stage_plan stage).limit + 1 = omega arith in
+    all_returned stage (subst (λ (u : ℕ). MayReturn stage u) reach may)
+
+-- each act leaves less room
+pub acts_end : (old new : Stage) → IsAnswered old new Acted → (stage_plan new).entry_limit - length new.core.entries < (stage_plan old).entry_limit - length old.core.entries
+acts_end old new answered =
+    let more : length old.core.entries < length new.core.entries = answered.answer in
+    let room : length new.core.entries + busy_count (stage_state new) ≤ (stage_plan new).entry_limit = legal_room (stage_plan new) new.core.entries answered.acting.stage_is.played.legal in
+    let plans : (stage_plan new).entry_limit ≡ (stage_plan old).entry_limit = ap (λ (p : PlanView). p.plan.entry_limit) answered.same.run.plan in
+    omega arith

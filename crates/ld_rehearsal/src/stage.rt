@@ -8,7 +8,7 @@ use ld_plan::Plan;
 use std::alloc::Global;
 
 /// What became of an ask for an act.
-#[derive(Clone, Copy, Debug, PartialEq, Eq)]
+#[derive(Clone, Copy, Debug)]
 pub enum Said {
     /// The pool performed an act.
     Acted,
@@ -110,9 +110,9 @@ impl Stage {
         ensures paused { IsPaused self.old self.new result }
     {
         loop {
-            let said = self.step();
-            if said != Said::Acted {
-                return said;
+            match self.step() {
+                Said::Acted => {}
+                said => return said,
             }
         }
     }
@@ -144,7 +144,8 @@ impl Stage {
         ensures acting { IsActing self.new }
     {
         let limit = self.core.plan().users().limit;
-        for user in 1..=limit {
+        for before in 0..limit {
+            let user = before + 1;
             if let Some(due) = self.dues.get(user) {
                 if due.end <= self.moment {
                     self.return_due(alloc, user, due);
