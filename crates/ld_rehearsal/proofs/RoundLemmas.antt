@@ -29,7 +29,7 @@ use Rattle.ld_machine.proofs.StepLemmas.{first_enabled}
 use Rattle.ld_machine.proofs.WaitsOnLemmas.{rehearsed_unstopped, wait_later}
 use Rattle.ld_rehearsal.specs.Dues.{due_at, due_in, due_of, ends_of, ShowsDues}
 use Rattle.ld_rehearsal.specs.Played.{may_come, IsPlayed}
-use Rattle.ld_rehearsal.specs.Stage.{full_reply, playing, stage_plan, stage_state, IsActing, IsEnded, IsPause, IsReturning, IsStage, MayReturn}
+use Rattle.ld_rehearsal.specs.Stage.{full_reply, playing, stage_plan, stage_state, IsActing, IsEnded, IsPause, IsReturning, IsSameMoment, IsSameRun, IsStage, MayReturn}
 use Rattle.ld_rehearsal.specs.declared.due.Due.{Due}
 use Rattle.ld_rehearsal.specs.declared.full.FullJournal.{FullJournal}
 use Rattle.ld_rehearsal.specs.declared.stage.Said.TheVariants as said
@@ -220,3 +220,17 @@ module _ (stage : Stage) (acting : IsActing stage) where
       let whole = played_over (stage_plan stage) stage.length stage.core.entries stage.moment (option_map full_reply stage.full) played
       (settled_returned (stage_plan stage) stage.core.entries settled) (λ t low. closed_quiet closed t) in
       record { rehearsed = whole.0; first = whole.1; closed = λ none. closed }
+
+-- the run of two steps at one moment
+pub same_run : (a b c : Stage) → IsSameMoment a b → IsSameMoment b c → IsSameRun a c
+same_run a b c one two = record { plan = two.run.plan ∙ one.run.plan; length = two.run.length ∙ one.run.length }
+
+-- and to a later moment
+pub same_later : (a b c : Stage) (next : ℕ) → IsSameMoment a b → IsSameMoment b c → IsSameRun a (record c { moment = next })
+same_later a b c next one two = record { plan = two.run.plan ∙ one.run.plan; length = two.run.length ∙ one.run.length }
+
+-- a round whose next moment is later than that of a stage at the same moment
+pub later_round : (a b c : Stage) (next : ℕ) → IsSameMoment a b → IsSameMoment b c → c.moment < next → a.moment < next
+later_round a b c next one two later =
+    let first : b.moment ≡ a.moment = one.moment in
+    let second : c.moment ≡ b.moment = two.moment in omega arith
