@@ -81,16 +81,19 @@ module _ (stage : Stage) (acting : IsActing stage) where
   in_table user due is = acting.stage_is.dues.each user ∙ is
 
   -- whoever plays ends at the last moment at the latest
-  nobody_past : (user : ℕ) (due : Due) → playing stage user ≡ Some due → last_moment ≤ stage.moment → ⊥
-  nobody_past user due is late =
-      let later : stage.moment < due.end = acting.ends user due is in
+  ends_within : (user : ℕ) (due : Due) → playing stage user ≡ Some due → due.end ≤ last_moment
+  ends_within user due is =
       let P : Option Play → Type 0 = λ o. option_map (due_of stage.length) o ≡ Some due → due.end ≤ last_moment in
       let go : P (play_of user stage.core.entries) = elim (play_of user stage.core.entries) as P [
         | None ↦ λ at. absurd (some_not_none (sym at))
         | Some play ↦ λ at.
             let ends : min (moment_after play.start stage.length) play.until ≡ due.end = ap (λ (o : Option Due). option_map_or (λ (d : Due). d.end) o 0) at in omega arith
-      ] in
-      let within = go is in absurd (omega arith)
+      ] in go is
+
+  nobody_past : (user : ℕ) (due : Due) → playing stage user ≡ Some due → last_moment ≤ stage.moment → ⊥
+  nobody_past user due is late =
+      let later : stage.moment < due.end = acting.ends user due is in
+      let within = ends_within user due is in absurd (omega arith)
 
   unstopped : (stage_state stage).stop_commanded ≡ false
   unstopped = rehearsed_unstopped (stage_plan stage) stage.core.entries (opening (stage_plan stage)) acting.stage_is.played.entries refl
@@ -161,15 +164,18 @@ module _ (stage : Stage) (acting : IsActing stage) where
 
   -- somebody plays
   pub goes_on_full : (full : FullJournal) (end : ℕ) → IsRefusedAt (stage_plan stage) (stage_state stage) stage.moment (full_reply full) → least_of (ends_of stage.dues) ≡ Some end →
-      (stage.moment < end) × MayReturn (record stage { moment = end; full = option_or stage.full (Some full) }) 0
+      (stage.moment < end) × (end ≤ last_moment) × MayReturn (record stage { moment = end; full = option_or stage.full (Some full) }) 0
   goes_on_full full end refused some =
       let one = some_end stage.dues end some in
       let plays : playing stage one.0 ≡ Some one.1 = sym (acting.stage_is.dues.each one.0) ∙ one.2 in
       let after : stage.moment < one.1.end = acting.ends one.0 one.1 plays in
       let same : one.1.end ≡ end = one.3 in
       let later : stage.moment < end = omega arith in
+      let high : one.1.end ≤ last_moment = ends_within one.0 one.1 plays in
+      let within : end ≤ last_moment = omega arith in
       (
         later,
+        within,
         (
           true,
           goes_on end (option_or stage.full (Some full)) true later (λ user due at. least_end stage.dues end some user due (in_table user due at)) (blocked_at full end refused later)

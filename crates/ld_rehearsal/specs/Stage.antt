@@ -4,6 +4,7 @@ use Rattle.ld_base.specs.declared.entry.Entry.{Entry}
 use Rattle.ld_base.specs.declared.reply.Reply.{Reply}
 use Rattle.ld_base.specs.declared.reply.Reply.TheVariants.{Full}
 use Rattle.ld_core.specs.CoreView.{plan_of, state_of}
+use Rattle.ld_machine.specs.Moment.{last_moment}
 use Rattle.ld_machine.specs.Plan.{Plan}
 use Rattle.ld_machine.specs.State.{State, all_closed}
 use Rattle.ld_machine.specs.Moves.{enabled}
@@ -127,7 +128,7 @@ pub record IsEnded (stage : Stage) : Type 0 where
 
 -- a moment was played: the next one is later, or the rehearsal has ended
 abbrev pub IsNext : Stage → Stage → Bool → Type 0
-IsNext old new true = (old.moment < new.moment) × MayReturn new 0
+IsNext old new true = (old.moment < new.moment) × (new.moment ≤ last_moment) × MayReturn new 0
 IsNext old new false = IsEnded new
 
 pub record IsRound (old new : Stage) (more : Bool) : Type 0 where

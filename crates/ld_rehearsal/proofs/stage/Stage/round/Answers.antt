@@ -1,4 +1,4 @@
-use Rattle.std.proofs.Common.{◌∙◌, ap}
+use Rattle.std.proofs.Common.{◌∙◌, ap, arith}
 use Rattle.std.specs.Prelude.{min}
 use Rattle.std.specs.Option.{option_map_or}
 use Rattle.ld_rehearsal.specs.Stage.{IsPaused}
@@ -16,7 +16,7 @@ returns-in-Waits c =
     record {
       round = record {
         run = same_later c.args.self.now first stage c.lesser-self.result c.return_all.ensures.same paused.same;
-        next = (later_round c.args.self.now first stage c.lesser-self.result c.return_all.ensures.same paused.same on.0, on.1);
+        next = (later_round c.args.self.now first stage c.lesser-self.result c.return_all.ensures.same paused.same on.0, omega (arith, c.lesser-self.type_inv), on.1);
       };
     }
 
