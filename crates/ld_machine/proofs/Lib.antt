@@ -31,3 +31,4 @@ pub mod SettlesShareLemmas
 pub mod SettlesItemLemmas
 pub mod SettlesReturnLemmas
 pub mod SettlesLemmas
+pub mod LatenessLemmas
