@@ -20,7 +20,7 @@ pub use examples::{
 pub use further_examples::{
     controlled_users, full_journal, late_arrivals, ramping_users, samples, two_scenarios,
 };
-pub use lateness::never_late;
+pub use lateness::{arrivals_on_time, never_late};
 pub use laws::{
     added_by_steps, always_answered, behind_a_stop, dropped_and_late, first_acts, fitting_tallies,
     fronts, goes_on, held_once, items_once, same_history, settled_items, settles,
