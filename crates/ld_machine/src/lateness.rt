@@ -14,8 +14,8 @@ pub fn never_late()
         FirstRefusal plan history None → IsTrue (nothing_late history) }
 {}
 
-/// A plan of two arrivals is well timed, and its rehearsal has room for each first act; where the first
-/// thread comes behind the end, which no rehearsal does, both arrivals are late.
+/// A plan of two arrivals is well timed, and its rehearsal has room for each first act. Where the first
+/// thread comes behind the end, both arrivals are late.
 pub fn arrivals_on_time()
     ensures timed { WellTimed (arrival_plan 1) }
     ensures room { FirstRefusal (arrival_plan 1) arrival_dropped None }
