@@ -38,3 +38,4 @@ pub mod KeepsRoomLemmas
 pub mod StartsLastLemmas
 pub mod WaitsOnLemmas
 pub mod SomeonePlaysLemmas
+pub mod LatenessLemmas

@@ -163,7 +163,7 @@ take_runs s slot t h =
       | false ↦ λ e. absurd (true≢false (sym h ∙ no_take s.part.executor s slot t e))
     ] in tested refl
 
-due_runs : (s : Scenario) (t : ℕ) (a : Arrival) → due_arrival s t ≡ Some a → runs s ≡ true
+pub due_runs : (s : Scenario) (t : ℕ) (a : Arrival) → due_arrival s t ≡ Some a → runs s ≡ true
 due_runs s t a h =
     let P : Bool → Type 0 = λ b. runs s ≡ b → runs s ≡ true in
     let tested : P (runs s) = elim (runs s) as P [

@@ -7,6 +7,7 @@
 
 mod examples;
 mod further_examples;
+mod lateness;
 mod laws;
 mod playing;
 mod together;
@@ -21,6 +22,7 @@ pub use examples::{
 pub use further_examples::{
     controlled_users, full_journal, late_arrivals, ramping_users, samples, two_scenarios,
 };
+pub use lateness::{arrivals_on_time, never_late};
 pub use laws::{
     added_by_steps, always_answered, behind_a_stop, dropped_and_late, first_acts, fitting_tallies,
     fronts, goes_on, held_once, items_once, same_history, settled_items, settles,

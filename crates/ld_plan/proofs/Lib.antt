@@ -4,3 +4,4 @@ pub mod OwnedLemmas
 pub mod TimesLemmas
 pub mod PlanLemmas
 pub mod RefusalLemmas
+pub mod TimedLemmas

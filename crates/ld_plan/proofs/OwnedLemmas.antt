@@ -6,7 +6,7 @@ use Rattle.std.proofs.lemmas.List.Elements.{All-contains, All-contains_itself, A
 use Rattle.ld_stripe.specs.Striping.{owner_at, share_at}
 use Rattle.ld_arrival.specs.Limits.{IsWithinLimits}
 use Rattle.ld_arrival.specs.Schedule.{owned_pairs, schedule}
-use Rattle.ld_arrival.specs.Timetable.{moment_of, planned_count}
+use Rattle.ld_arrival.specs.Timetable.{IsPlanned, moment_of, planned_count}
 use Rattle.ld_arrival.proofs.CountLemmas.{counted}
 use Rattle.ld_arrival.proofs.ScheduleLaws.{in_owned, in_schedule, owned_count}
 use Rattle.ld_machine.specs.Plan.{Arrival}
@@ -51,15 +51,22 @@ owned_item whole j item limits below =
           (All-map (λ (a : Arrival). owner_at whole.owners a.item ≡ j) arrival_of owned each)) has,
     )
 
--- the moment of an owned arrival is that of its item
-pub owned_moment : (whole : Whole) (j : ℕ) → IsWithinLimits whole.timetable →
-    (a : Arrival) → Contains (owned_arrivals whole j) a → a.moment ≡ moment_of whole.timetable a.item
-owned_moment whole j limits a has =
+-- an owned arrival is planned, and its moment is that of its item
+abbrev IsPlannedAs : Whole → ℕ → ℕ → Type 0
+IsPlannedAs whole item moment = IsPlanned whole.timetable item × (moment ≡ moment_of whole.timetable item)
+
+pub owned_planned : (whole : Whole) (j : ℕ) → IsWithinLimits whole.timetable →
+    (a : Arrival) → Contains (owned_arrivals whole j) a → IsPlanned whole.timetable a.item × (a.moment ≡ moment_of whole.timetable a.item)
+owned_planned whole j limits a has =
     let pairs = schedule whole.timetable in
     let owned = owned_pairs whole.owners j pairs in
     let each =
-    All-weaker (Contains owned) (λ (pair : ℕ × ℕ). pair.1 ≡ moment_of whole.timetable pair.0)
-    (λ pair kept. ((in_schedule whole.timetable limits pair.0 pair.1).0 ((in_owned whole.owners j pairs pair).0 kept).0).1)
+    All-weaker (Contains owned) (λ (pair : ℕ × ℕ). IsPlannedAs whole pair.0 pair.1)
+    (λ pair kept. (in_schedule whole.timetable limits pair.0 pair.1).0 ((in_owned whole.owners j pairs pair).0 kept).0)
     owned (All-contains_itself owned) in
-    All-contains (λ (b : Arrival). b.moment ≡ moment_of whole.timetable b.item) (owned_arrivals whole j) a
-    (All-map (λ (b : Arrival). b.moment ≡ moment_of whole.timetable b.item) arrival_of owned each) has
+    All-contains (λ (b : Arrival). IsPlannedAs whole b.item b.moment) (owned_arrivals whole j) a
+    (All-map (λ (b : Arrival). IsPlannedAs whole b.item b.moment) arrival_of owned each) has
+
+pub owned_moment : (whole : Whole) (j : ℕ) → IsWithinLimits whole.timetable →
+    (a : Arrival) → Contains (owned_arrivals whole j) a → a.moment ≡ moment_of whole.timetable a.item
+owned_moment whole j limits a has = (owned_planned whole j limits a has).1

@@ -41,6 +41,7 @@ impl Plan {
     ghost use Rattle.ld_machine.specs.Moment.{moment_after};
     ghost use Rattle.ld_machine.specs.Plan.{Arrival, Part, due_moment, owned_items};
     ghost use Rattle.ld_machine.specs.Scenario.{executor_arrivals};
+    ghost use Rattle.ld_machine.specs.WellTimed.{WellTimed};
     ghost use Rattle.ld_plan.specs.PartView.{PartView};
     ghost use Rattle.ld_plan.specs.Plan.{IsMade};
     ghost use Rattle.ld_plan.specs.PlanFault.{IsAccepted, IsRefusal};
@@ -91,13 +92,14 @@ impl Plan {
         self.position
     }
 
-    /// How many users the plan needs.
+    /// How many users the plan needs. Its arrivals are due before the ends of their scenarios.
     pub fn users(&self) -> Users
         ensures planned { result.planned ≡ self.now.plan.planned }
         ensures limit { result.limit ≡ self.now.plan.limit }
         ensures requirement { IsRequirement self.now.plan.parts result.planned result.limit }
         ensures within { result.planned ≤ result.limit }
         ensures most { result.limit ≤ most_users }
+        ensures timed { WellTimed self.now.plan }
     {
         self.users
     }
