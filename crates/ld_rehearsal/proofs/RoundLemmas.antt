@@ -13,12 +13,13 @@ use Rattle.ld_machine.specs.Moves.{Move, enabled, moves_of, users_of, scenarios}
 use Rattle.ld_machine.specs.Order.{first_moves}
 use Rattle.ld_machine.specs.Plan.{Plan}
 use Rattle.ld_machine.specs.Playing.{Play, play_of}
-use Rattle.ld_machine.specs.Rehearsal.{FirstRefusal, IsRefusedAt, NothingEnabled, NothingEnabledFrom}
+use Rattle.ld_machine.specs.Rehearsal.{nothing_late, FirstRefusal, IsRefusedAt, IsRehearsed, NothingEnabled, NothingEnabledFrom}
 use Rattle.ld_machine.specs.Settled.{IsSettled, all_returned}
 use Rattle.ld_machine.specs.State.{HeldUser, State, all_closed, opening}
 use Rattle.ld_machine.specs.Wait.{least_of, wait_moment}
 use Rattle.ld_machine.specs.WellTimed.{WellTimed}
 use Rattle.ld_machine.proofs.FirstOfAllLemmas.{In-of, act_open}
+use Rattle.ld_machine.proofs.LatenessLemmas.{opening_answered, steps_on_time}
 use Rattle.ld_machine.proofs.ListLemmas.{In, here, Contains-from_In, some_not_none}
 use Rattle.ld_machine.proofs.OrderLemmas.{none_first}
 use Rattle.ld_machine.proofs.PlayingLemmas.{busy_plays}
@@ -27,9 +28,10 @@ use Rattle.ld_machine.proofs.SettlesLemmas.{is_settled_where_closed}
 use Rattle.ld_machine.proofs.SomeonePlaysLemmas.{plays_at_the_end}
 use Rattle.ld_machine.proofs.StepLemmas.{first_enabled}
 use Rattle.ld_machine.proofs.WaitsOnLemmas.{rehearsed_unstopped, wait_later}
+use Rattle.ld_plan.specs.PlanView.{PlanView}
 use Rattle.ld_rehearsal.specs.Dues.{due_at, due_in, due_of, ends_of, ShowsDues}
 use Rattle.ld_rehearsal.specs.Played.{may_come, IsPlayed}
-use Rattle.ld_rehearsal.specs.Stage.{full_reply, playing, stage_plan, stage_state, IsActing, IsEnded, IsPause, IsReturning, IsSameMoment, IsSameRun, IsStage, MayReturn}
+use Rattle.ld_rehearsal.specs.Stage.{full_reply, playing, stage_plan, stage_state, IsActing, IsEnded, IsOpened, IsPause, IsReturning, IsSameMoment, IsSameRun, IsStage, MayReturn}
 use Rattle.ld_rehearsal.specs.declared.due.Due.{Due}
 use Rattle.ld_rehearsal.specs.declared.full.FullJournal.{FullJournal}
 use Rattle.ld_rehearsal.specs.declared.stage.Said.TheVariants as said
@@ -240,3 +242,28 @@ pub later_round : (a b c : Stage) (next : ℕ) → IsSameMoment a b → IsSameMo
 later_round a b c next one two later =
     let first : b.moment ≡ a.moment = one.moment in
     let second : c.moment ≡ b.moment = two.moment in omega arith
+
+-- ---- the whole rehearsal
+
+module _ (plan : PlanView) (long : ℕ) (stage new : Stage) (history : List Entry) (opening_is : IsOpened plan long stage) (run : IsSameRun stage new) (end : IsEnded new)
+    (same : history ≡ new.core.entries) where
+  plans : new.core.plan ≡ plan
+  plans = run.plan ∙ opening_is.plan_is
+
+  pub whole_rehearsed : IsRehearsed plan.plan long history
+  whole_rehearsed =
+      let lengths : new.length ≡ long = run.length ∙ opening_is.length_is in
+      rw (same, ← plans, ← lengths) end.rehearsed
+
+  pub whole_settled : new.full ≡ None → IsSettled plan.plan history
+  whole_settled empty =
+      let closed : all_closed (state_after plan.plan history) ≡ true = rw (same, ← plans) (end.closed empty) in
+      let rehearsed = whole_rehearsed in
+      is_settled_where_closed plan.plan history rehearsed.legal (rehearsed_unstopped plan.plan history (opening plan.plan) rehearsed.entries refl) closed
+
+  pub whole_in_time : WellTimed plan.plan → new.full ≡ None → nothing_late history ≡ true
+  whole_in_time timed empty =
+      let rehearsed = whole_rehearsed in
+      let first : FirstRefusal plan.plan history None =
+      rw (same, ← plans) (subst (λ (o : Option FullJournal). FirstRefusal (stage_plan new) new.core.entries (option_map full_reply o)) empty end.first) in
+      steps_on_time plan.plan timed history (opening plan.plan) 0 rehearsed.legal first (opening_answered plan.plan timed)
