@@ -1,6 +1,6 @@
 -- The table of iterations under way, when one of them changes, and the least of their ends.
-use Rattle.std.proofs.Common.{◌≡◌, ◌<◌, ◌≤◌, ◌+◌, ◌-◌, ◌==◌, if◌then◌else◌, ℕ, zero, suc, Bool, true, false, cond, min, List, [], ◌∷◌, ◌++◌, Option, None, Some, Contains, append-nil, arith, ap, get_or, length, refl, set, sym, subst, take, ◌∙◌}
-use Rattle.std.specs.Prelude.{filter_map, option_map, replicate, slice_get, unwrap_or}
+use Rattle.std.proofs.Common.{◌≡◌, ◌<◌, ◌≤◌, ◌+◌, ◌-◌, ◌==◌, if◌then◌else◌, ℕ, zero, suc, Bool, true, false, min, List, [], ◌∷◌, ◌++◌, Option, None, Some, append-nil, arith, ap, get_or, length, refl, set, sym, subst, take, ◌∙◌}
+use Rattle.std.specs.Prelude.{option_map, replicate, slice_get, unwrap_or}
 use Rattle.std.specs.Option.{option_map_or}
 use Rattle.std.proofs.Math.Decide.{dec_lt}
 use Rattle.std.proofs.lemmas.Grind.{common_steps}

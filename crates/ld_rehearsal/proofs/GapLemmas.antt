@@ -1,5 +1,5 @@
 -- The moments between entries: how they go on with one entry more, or up to a later moment.
-use Rattle.std.proofs.Common.{◌≡◌, ◌≤◌, ◌<◌, ◌+◌, ◌⊎◌, inl, inr, ℕ, Bool, true, false, List, [], ◌∷◌, ◌++◌, Option, None, Some, Contains, arith, refl, sym, ap, subst, ◌∙◌}
+use Rattle.std.proofs.Common.{◌≡◌, ◌≤◌, ◌<◌, inl, inr, ℕ, Bool, true, false, List, [], ◌∷◌, ◌++◌, Option, None, Some, arith, refl, sym, ap, subst}
 use Rattle.std.specs.Option.{option_or}
 use Rattle.std.proofs.Math.Decide.{dec_lt}
 use Rattle.ld_base.specs.declared.entry.Entry.{Entry}
@@ -7,9 +7,8 @@ use Rattle.ld_base.specs.declared.reply.Reply.{Reply}
 use Rattle.ld_machine.specs.Effect.{after_entry, after_entries, state_after}
 use Rattle.ld_machine.specs.OnTime.{last_reading}
 use Rattle.ld_machine.specs.Plan.{Plan}
-use Rattle.ld_machine.specs.Rehearsal.{is_return, FirstRefusal, FirstRefusalFrom, IsRefusedAt, IsRefusedBetween, NothingEnabled, NothingEnabledFrom, Waits, WaitsFrom}
+use Rattle.ld_machine.specs.Rehearsal.{is_return, FirstRefusalFrom, IsRefusedAt, IsRefusedBetween, NothingEnabled, NothingEnabledFrom, Waits, WaitsFrom}
 use Rattle.ld_machine.specs.State.{State, opening}
-use Rattle.ld_machine.proofs.ListLemmas.{some_not_none}
 use Rattle.ld_rehearsal.specs.Played.{RefusalUpTo, WaitsSoFar, WaitsUpTo}
 
 -- ---- stretches of time

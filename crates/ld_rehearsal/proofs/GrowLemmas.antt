@@ -1,5 +1,5 @@
 -- What holds of a history holds of it with one entry more.
-use Rattle.std.proofs.Common.{◌≡◌, ◌≤◌, ◌<◌, ◌+◌, ◌==◌, ◌&&◌, ◌||◌, not, nat_le, nat_lt, ℕ, Bool, true, false, cond, List, [], ◌∷◌, ◌++◌, Option, None, Some, find, arith, refl, sym, ap, subst, ◌∙◌}
+use Rattle.std.proofs.Common.{◌≡◌, ◌≤◌, ◌<◌, ◌==◌, ◌&&◌, ◌||◌, not, nat_le, nat_lt, ℕ, Bool, true, false, cond, List, [], ◌∷◌, ◌++◌, Option, None, Some, find, arith, refl, ap, ◌∙◌}
 use Rattle.std.specs.Option.{option_map_or, option_or}
 use Rattle.std.proofs.lemmas.List.Folds.{find-append}
 use Rattle.std.proofs.lemmas.Grind.{common_steps}
@@ -10,9 +10,9 @@ use Rattle.ld_machine.specs.OnTime.{is_asked_act, last_reading, readings_rise}
 use Rattle.ld_machine.specs.Playing.{Play, play_behind, play_after, play_of}
 use Rattle.ld_machine.specs.Rehearsal.{is_return, may_follow, returned_user, returns_at, returns_first, is_returned_at, all_returned_at}
 use Rattle.ld_machine.specs.Settled.{is_turn_of, is_its_return, is_returned, all_returned}
-use Rattle.ld_machine.proofs.ListLemmas.{both_true, some_not_none, number_itself}
+use Rattle.ld_machine.proofs.ListLemmas.{both_true, number_itself}
 use Rattle.ld_rehearsal.specs.Played.{is_returned_so_far, all_returned_so_far, may_come}
-use Rattle.ld_rehearsal.proofs.PlayLemmas.{begun_after, not_turned, untouched}
+use Rattle.ld_rehearsal.proofs.PlayLemmas.{begun_after, untouched}
 
 -- ---- readings
 

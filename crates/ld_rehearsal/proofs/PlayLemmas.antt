@@ -1,5 +1,5 @@
 -- Who plays behind a history with one entry more, and how the turns of users alternate.
-use Rattle.std.proofs.Common.{◌≡◌, ◌≤◌, ◌<◌, ◌==◌, ◌&&◌, if◌then◌else◌, ℕ, Bool, true, false, cond, List, [], ◌∷◌, ◌++◌, Option, None, Some, find, arith, refl, sym, ap, subst, ◌∙◌}
+use Rattle.std.proofs.Common.{◌≡◌, ◌==◌, ℕ, Bool, true, false, cond, List, [], ◌∷◌, ◌++◌, Option, None, Some, find, arith, refl, sym, ap, subst, ◌∙◌}
 use Rattle.std.specs.Option.{option_map_or, option_or}
 use Rattle.std.proofs.lemmas.List.Folds.{find-append}
 use Rattle.std.proofs.lemmas.Grind.{common_steps}
@@ -10,7 +10,7 @@ use Rattle.ld_machine.specs.OnTime.{is_asked_act}
 use Rattle.ld_machine.specs.Playing.{Play, play_behind, play_after, play_of}
 use Rattle.ld_machine.specs.Settled.{is_turn_of, is_its_return}
 use Rattle.ld_machine.specs.Turns.{is_played_alone, starts_alternate}
-use Rattle.ld_machine.proofs.ListLemmas.{both_true, some_not_none, number_itself}
+use Rattle.ld_machine.proofs.ListLemmas.{both_true, some_not_none}
 
 -- the next turn of a user among entries
 abbrev next_turn : ℕ → List Entry → Option Entry

@@ -1,31 +1,28 @@
 -- What was played goes on: with the entries of a step, and up to a later moment.
-use Rattle.std.proofs.Common.{◌≡◌, ◌≤◌, ◌<◌, ◌+◌, ◌==◌, ◌&&◌, not, nat_le, ℕ, zero, suc, Bool, true, false, cond, min, List, [], ◌∷◌, ◌++◌, Option, None, Some, Contains, length, arith, refl, sym, ap, subst, ◌∙◌}
+use Rattle.std.proofs.Common.{◌≡◌, ◌≤◌, ◌<◌, ◌+◌, ◌==◌, ◌&&◌, nat_le, ℕ, Bool, true, false, min, List, [], ◌∷◌, ◌++◌, Option, Some, arith, refl, sym, ap, subst, ◌∙◌}
 use Rattle.std.specs.List.{list_all}
 use Rattle.std.specs.Option.{option_map_or, option_or}
 use Rattle.std.proofs.lemmas.Grind.{common_steps}
 use Rattle.std.proofs.lemmas.List.{append-nil, append_assoc}
 use Rattle.std.proofs.lemmas.List.Folds.{list_all-append}
-use Rattle.ld_base.specs.Stint.{StintView}
 use Rattle.ld_base.specs.Tally.{TallyView}
 use Rattle.ld_base.specs.declared.act.Act.{Act}
 use Rattle.ld_base.specs.declared.act.Act.TheVariants.{Take, Grow, Start, Drop, Late, Return, Release, Stop, Close, Control}
-use Rattle.ld_base.specs.declared.act.Outcome.{Outcome}
 use Rattle.ld_base.specs.declared.ask.Ask.TheVariants as asks
 use Rattle.ld_base.specs.declared.entry.Entry.{Entry}
 use Rattle.ld_base.specs.declared.reply.Reply.{Reply}
 use Rattle.ld_machine.specs.Acts.{acts_of}
 use Rattle.ld_machine.specs.Effect.{state_after}
-use Rattle.ld_machine.specs.History.{is_done, IsLegal}
+use Rattle.ld_machine.specs.History.{IsLegal}
 use Rattle.ld_machine.specs.Moment.{moment_after}
 use Rattle.ld_machine.specs.Moves.{Move}
 use Rattle.ld_machine.specs.OnTime.{is_asked_act, last_reading, readings_rise}
 use Rattle.ld_machine.specs.Plan.{Plan}
 use Rattle.ld_machine.specs.Playing.{Play, play_of, stint_of_play}
-use Rattle.ld_machine.specs.Rehearsal.{is_done_as, is_rehearsed_act, is_rehearsed_entry, is_return, may_follow, returned_user, returns_at, returns_first, FirstRefusal, IsRefusedAt, IsRehearsed, NothingEnabled, NothingEnabledFrom}
+use Rattle.ld_machine.specs.Rehearsal.{is_done_as, is_rehearsed_act, is_rehearsed_entry, is_return, returns_at, returns_first, FirstRefusal, IsRefusedAt, IsRehearsed, NothingEnabled, NothingEnabledFrom}
 use Rattle.ld_machine.specs.Replies.{reply_to}
-use Rattle.ld_machine.specs.Same.{same_bool}
 use Rattle.ld_machine.specs.Settled.{is_turn_of, is_its_return, all_returned}
-use Rattle.ld_machine.specs.State.{State, opening}
+use Rattle.ld_machine.specs.State.{opening}
 use Rattle.ld_machine.specs.Step.{Result, IsStep, entries_of, outcome_of, performed, return_of}
 use Rattle.ld_machine.specs.Turns.{starts_alternate}
 use Rattle.ld_machine.proofs.HolderLemmas.{opening_holds}
@@ -115,14 +112,14 @@ act_fits long history to at act asked alternate =
       rehearsed = asked_rehearsed act asked;
       may = act_may_come history e (no_return act asked);
       ends = λ user play h turn. absurd (
-        let its = turn_returns history e user play alternate h turn in
-        let none = no_return_of play.scenario user play.item act asked in
-        true_not_false (sym its ∙ none)
-      );
+          let its = turn_returns history e user play alternate h turn in
+          let none = no_return_of play.scenario user play.item act asked in
+          true_not_false (sym its ∙ none)
+          );
       unblocks = λ b. absurd (true_not_false (sym b));
     } where
-  true_not_false : true ≡ false → ⊥
-  true_not_false e = cc
+      true_not_false : true ≡ false → ⊥
+      true_not_false e = cc
 
 told_acts : (plan : Plan) (long : ℕ) (history : List Entry) (to : ℕ) (first : Option Reply) (at : ℕ) (acts : List Act) → list_all is_asked_act acts ≡ true →
     starts_alternate (history ++ entries_of at 0 to acts) ≡ true → Told plan long history to first false → Told plan long (history ++ entries_of at 0 to acts) to first false
@@ -230,31 +227,29 @@ played_blocked plan long history to later first refusal p more at =
 -- where each Start is returned and nothing more is enabled, it is rehearsed
 pub played_over : (plan : Plan) (long : ℕ) (history : List Entry) (to : ℕ) (first : Option Reply) → IsPlayed plan long history to first false →
     all_returned history ≡ true → NothingEnabledFrom plan (state_after plan history) to → IsRehearsed plan long history × FirstRefusal plan history first
-played_over plan long history to first p some quiet =
-    (
-      record {
-        legal = p.legal;
-        entries = p.entries;
-        readings = p.readings;
-        returned = returned_closed long history some p.returned;
-        order = p.order;
-        waits = waits_so_far_over plan history to p.waits quiet;
-      },
-      refusal_over plan (opening plan) 0 history to first p.refusal quiet,
-    )
+played_over plan long history to first p some quiet = (
+  record {
+    legal = p.legal;
+    entries = p.entries;
+    readings = p.readings;
+    returned = returned_closed long history some p.returned;
+    order = p.order;
+    waits = waits_so_far_over plan history to p.waits quiet;
+  },
+  refusal_over plan (opening plan) 0 history to first p.refusal quiet,
+)
 
 -- the same where nobody plays, and a first act has no room
 pub played_full : (plan : Plan) (long : ℕ) (history : List Entry) (to : ℕ) (refusal : Reply) → IsPlayed plan long history to (Some refusal) true →
     ((user : ℕ) (play : Play) → play_of user history ≡ Some play → ⊥) → IsRehearsed plan long history × FirstRefusal plan history (Some refusal)
-played_full plan long history to refusal p nobody =
-    (
-      record {
-        legal = p.legal;
-        entries = p.entries;
-        readings = p.readings;
-        returned = returned_quiet long history nobody p.returned;
-        order = p.order;
-        waits = waits_so_far_full plan history to p.waits;
-      },
-      refusal_full plan (opening plan) 0 history to refusal p.refusal,
-    )
+played_full plan long history to refusal p nobody = (
+  record {
+    legal = p.legal;
+    entries = p.entries;
+    readings = p.readings;
+    returned = returned_quiet long history nobody p.returned;
+    order = p.order;
+    waits = waits_so_far_full plan history to p.waits;
+  },
+  refusal_full plan (opening plan) 0 history to refusal p.refusal,
+)

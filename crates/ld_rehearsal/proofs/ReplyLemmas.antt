@@ -1,13 +1,10 @@
 -- What a reply tells of the step that gave it.
-use Rattle.std.proofs.Common.{◌≡◌, ◌≢◌, ◌≤◌, ◌<◌, ◌+◌, ◌==◌, ◌&&◌, ℕ, suc, Bool, true, false, cond, if◌then◌else◌, nat_lt, List, [], ◌∷◌, ◌++◌, Option, None, Some, Contains, length, map, arith, refl, sym, ap, subst, ◌∙◌}
+use Rattle.std.proofs.Common.{◌≡◌, ◌≢◌, ◌≤◌, ◌==◌, ◌&&◌, ℕ, Bool, true, false, cond, if◌then◌else◌, nat_lt, List, [], ◌∷◌, Option, None, Some, Contains, length, arith, refl, sym, ap, subst, ◌∙◌}
 use Rattle.std.specs.List.{list_all}
 use Rattle.std.specs.Option.{option_map_or}
-use Rattle.std.proofs.lemmas.Grind.{common_steps}
 use Rattle.ld_base.specs.Stint.{StintView}
 use Rattle.ld_base.specs.Tally.{TallyView}
-use Rattle.ld_base.specs.declared.act.Act.{Act}
 use Rattle.ld_base.specs.declared.ask.Ask.TheVariants as asks
-use Rattle.ld_base.specs.declared.entry.Entry.{Entry}
 use Rattle.ld_base.specs.declared.reply.Reply.{Reply}
 use Rattle.ld_base.specs.declared.reply.Reply.TheVariants.{Run, Wait, Over, Full, Noted}
 use Rattle.ld_base.specs.declared.reply.Room.{Room}
@@ -19,10 +16,10 @@ use Rattle.ld_machine.specs.Plan.{Plan}
 use Rattle.ld_machine.specs.Playing.{Play, play_after}
 use Rattle.ld_machine.specs.Rehearsal.{IsRefusedAt, NothingEnabled}
 use Rattle.ld_machine.specs.Replies.{reply_to}
-use Rattle.ld_machine.specs.Room.{entries_with, samples_with, entries_refusal, samples_refusal, or_else, room_refusal, script_room}
+use Rattle.ld_machine.specs.Room.{entries_with, samples_with, or_else, room_refusal, script_room}
 use Rattle.ld_machine.specs.Samples.{tally_fits}
 use Rattle.ld_machine.specs.State.{State, all_closed}
-use Rattle.ld_machine.specs.Step.{Result, IsStep, answered, entries_of, is_out, move_result, open_results, outcome_of, performed, replies, results, return_of}
+use Rattle.ld_machine.specs.Step.{Result, IsStep, answered, entries_of, is_out, move_result, open_results, outcome_of, performed, replies, return_of}
 use Rattle.ld_machine.specs.Wait.{wait_moment}
 use Rattle.ld_machine.proofs.FirstOfAllLemmas.{In-of}
 use Rattle.ld_machine.proofs.ListLemmas.{Contains-from_In, In, In-map, In-one, map-In, nothing_in}

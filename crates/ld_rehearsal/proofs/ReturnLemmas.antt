@@ -1,5 +1,5 @@
 -- The stage behind a Return, and where nothing is to be returned.
-use Rattle.std.proofs.Common.{◌≡◌, ◌≢◌, ◌<◌, ◌≤◌, ◌+◌, ◌-◌, ◌==◌, ◌&&◌, ◌||◌, not, nat_le, nat_lt, if◌then◌else◌, ℕ, zero, suc, Bool, true, false, cond, min, List, [], ◌∷◌, ◌++◌, Option, None, Some, arith, ap, length, length-set, refl, set, sym, subst, ◌∙◌}
+use Rattle.std.proofs.Common.{◌≡◌, ◌≢◌, ◌<◌, ◌≤◌, ◌+◌, ◌-◌, ◌==◌, ◌&&◌, ◌||◌, not, nat_le, nat_lt, if◌then◌else◌, ℕ, Bool, true, false, List, [], ◌∷◌, ◌++◌, Option, None, Some, arith, ap, length, length-set, refl, set, sym, subst, ◌∙◌}
 use Rattle.std.specs.Prelude.{option_map}
 use Rattle.std.specs.List.{list_all}
 use Rattle.std.specs.Option.{option_map_or}
@@ -15,7 +15,6 @@ use Rattle.ld_base.specs.declared.reply.Reply.{Reply}
 use Rattle.ld_base.specs.declared.reply.Reply.TheVariants.{Noted}
 use Rattle.ld_core.specs.Changes.{IsReturn}
 use Rattle.ld_core.specs.CoreView.{CoreView, IsAsked}
-use Rattle.ld_machine.specs.Effect.{state_after}
 use Rattle.ld_machine.specs.History.{IsLegal}
 use Rattle.ld_machine.specs.Playing.{Play, play_after, play_behind, play_of, stint_of_play}
 use Rattle.ld_machine.specs.Rehearsal.{is_rehearsed_entry, is_return, may_follow, returned_user}
@@ -24,12 +23,11 @@ use Rattle.ld_machine.specs.State.{busy_count}
 use Rattle.ld_machine.specs.Step.{Result, is_out}
 use Rattle.ld_machine.proofs.KeepsRoomLemmas.{legal_room}
 use Rattle.ld_machine.proofs.LegalLemmas.{goes_on_legally}
-use Rattle.ld_machine.proofs.ListLemmas.{both_true, number_itself, some_not_none}
+use Rattle.ld_machine.proofs.ListLemmas.{both_true, some_not_none}
 use Rattle.ld_machine.proofs.PlayersLemmas.{player_made}
 use Rattle.ld_machine.proofs.PlayingLemmas.{legal_matches}
 use Rattle.ld_plan.specs.PlanView.{PlanView}
 use Rattle.ld_rehearsal.specs.Dues.{due_at, due_in, due_of}
-use Rattle.ld_rehearsal.specs.Played.{may_come}
 use Rattle.ld_rehearsal.specs.Stage.{full_reply, playing, stage_plan, stage_state, IsActing, IsAnswered, IsDue, IsReturning, IsSameMoment, IsStage, MayReturn}
 use Rattle.ld_rehearsal.specs.declared.due.Due.{Due}
 use Rattle.ld_rehearsal.specs.declared.stage.Said.TheVariants.{Acted}
@@ -143,11 +141,11 @@ module _ (stage : Stage) (user : ℕ) (play : Play) (blocked : Bool) (returning 
           planned = is.planned;
           lasts = is.lasts;
           played = played_return (stage_plan stage) stage.length history stage.moment (option_map full_reply stage.full) blocked ((stage_state stage).entries + 1) user play
-          is.played later plays ends (returning.order entry refl refl (omega arith));
+              is.played later plays ends (returning.order entry refl refl (omega arith));
           dues = record {
             count = length-set stage.dues (user - 1) None ∙ is.dues.count;
             each = λ other. due_changed stage.dues user None other within.0 within.1
-            ∙ ap (λ (o : Option Due). if user == other then None else o) (is.dues.each other) ∙ sym (plays_behind other);
+                ∙ ap (λ (o : Option Due). if user == other then None else o) (is.dues.each other) ∙ sym (plays_behind other);
           };
         };
         ends = λ other due at. returning.ends other due (played_before other due at).1;
@@ -210,8 +208,7 @@ pub passed_by : (stage : Stage) (user : ℕ) → ((due : Due) → due_at stage.d
 passed_by stage user later may =
     let blocked = may.0 in
     let returning = may.1 in
-    let each = returning.stage_is.dues.each in
-    (
+    let each = returning.stage_is.dues.each in (
       blocked,
       record {
         stage_is = returning.stage_is;
@@ -238,16 +235,15 @@ all_returned stage may =
     let returning = may.1 in
     let within : (user : ℕ) (due : Due) → playing stage user ≡ Some due → user < (stage_plan stage).limit + 1 =
     λ user due is.
-        let played = due_played stage.length (play_of user stage.core.entries) due is in
-        let made = player_made (stage_plan stage) stage.core.entries user played.0 returning.stage_is.planned returning.stage_is.played.legal played.1 in
-        let high : user ≤ (stage_plan stage).limit = made.1 in omega arith in
+    let played = due_played stage.length (play_of user stage.core.entries) due is in
+    let made = player_made (stage_plan stage) stage.core.entries user played.0 returning.stage_is.planned returning.stage_is.played.legal played.1 in
+    let high : user ≤ (stage_plan stage).limit = made.1 in omega arith in
     let P : Bool → Type 0 = λ b. IsReturning stage ((stage_plan stage).limit + 1) b → IsStage stage false in
     let unblocked : P may.0 = elim may.0 as P [
       | true ↦ λ at. absurd (let one = at.ended refl in let low : (stage_plan stage).limit + 1 ≤ one.0 = one.2 in let high : one.0 < (stage_plan stage).limit + 1 = within one.0 one.1 one.3 in omega arith)
       | false ↦ λ at. at.stage_is
     ] in
     record { stage_is = unblocked returning; ends = λ user due is. returning.below user due is (within user due is) }
-
 
 -- what else is found in the table is the same
 pub found_later : (t : ℕ) (o : Option Due) (one : Due) → o ≡ Some one → t < one.end → (due : Due) → o ≡ Some due → t < due.end

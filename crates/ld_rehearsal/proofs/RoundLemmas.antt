@@ -1,5 +1,5 @@
 -- The stage goes on to a later moment, or the rehearsal has ended.
-use Rattle.std.proofs.Common.{◌≡◌, ◌≢◌, ◌<◌, ◌≤◌, ◌+◌, ℕ, zero, suc, Bool, true, false, min, List, [], ◌∷◌, ◌++◌, Option, None, Some, Contains, arith, ap, length, refl, sym, subst, ◌∙◌}
+use Rattle.std.proofs.Common.{◌≡◌, ◌<◌, ◌≤◌, ◌+◌, ℕ, Bool, true, false, min, List, [], ◌∷◌, Option, None, Some, arith, ap, length, refl, sym, subst, ◌∙◌}
 use Rattle.std.specs.Prelude.{option_map, replicate}
 use Rattle.std.specs.Option.{option_map_or, option_or}
 use Rattle.std.proofs.Math.Decide.{dec_lt}
@@ -9,13 +9,12 @@ use Rattle.ld_base.specs.declared.reply.Reply.{Reply}
 use Rattle.ld_core.specs.CoreView.{CoreView}
 use Rattle.ld_machine.specs.Effect.{state_after}
 use Rattle.ld_machine.specs.Moment.{last_moment, moment_after}
-use Rattle.ld_machine.specs.Moves.{Move, enabled, moves_of, users_of, scenarios}
+use Rattle.ld_machine.specs.Moves.{Move, enabled}
 use Rattle.ld_machine.specs.Order.{first_moves}
-use Rattle.ld_machine.specs.Plan.{Plan}
 use Rattle.ld_machine.specs.Playing.{Play, play_of}
-use Rattle.ld_machine.specs.Rehearsal.{nothing_late, FirstRefusal, IsRefusedAt, IsRehearsed, NothingEnabled, NothingEnabledFrom}
-use Rattle.ld_machine.specs.Settled.{IsSettled, all_returned}
-use Rattle.ld_machine.specs.State.{HeldUser, State, all_closed, opening}
+use Rattle.ld_machine.specs.Rehearsal.{nothing_late, FirstRefusal, IsRefusedAt, IsRehearsed, NothingEnabled}
+use Rattle.ld_machine.specs.Settled.{IsSettled}
+use Rattle.ld_machine.specs.State.{all_closed, opening}
 use Rattle.ld_machine.specs.Wait.{least_of, wait_moment}
 use Rattle.ld_machine.specs.WellTimed.{WellTimed}
 use Rattle.ld_machine.proofs.FirstOfAllLemmas.{In-of, act_open}
@@ -29,9 +28,9 @@ use Rattle.ld_machine.proofs.SomeonePlaysLemmas.{plays_at_the_end}
 use Rattle.ld_machine.proofs.StepLemmas.{first_enabled}
 use Rattle.ld_machine.proofs.WaitsOnLemmas.{rehearsed_unstopped, wait_later}
 use Rattle.ld_plan.specs.PlanView.{PlanView}
-use Rattle.ld_rehearsal.specs.Dues.{due_at, due_in, due_of, ends_of, ShowsDues}
+use Rattle.ld_rehearsal.specs.Dues.{due_at, due_in, due_of, ends_of}
 use Rattle.ld_rehearsal.specs.Played.{may_come, IsPlayed}
-use Rattle.ld_rehearsal.specs.Stage.{full_reply, playing, stage_plan, stage_state, IsActing, IsEnded, IsOpened, IsPause, IsReturning, IsSameMoment, IsSameRun, IsStage, MayReturn}
+use Rattle.ld_rehearsal.specs.Stage.{full_reply, playing, stage_plan, stage_state, IsActing, IsEnded, IsOpened, IsPause, IsReturning, IsSameMoment, IsSameRun, MayReturn}
 use Rattle.ld_rehearsal.specs.declared.due.Due.{Due}
 use Rattle.ld_rehearsal.specs.declared.full.FullJournal.{FullJournal}
 use Rattle.ld_rehearsal.specs.declared.stage.Said.TheVariants as said
@@ -174,14 +173,13 @@ module _ (stage : Stage) (acting : IsActing stage) where
       let same : one.1.end ≡ end = one.3 in
       let later : stage.moment < end = omega arith in
       let high : one.1.end ≤ last_moment = ends_within one.0 one.1 plays in
-      let within : end ≤ last_moment = omega arith in
-      (
+      let within : end ≤ last_moment = omega arith in (
         later,
         within,
         (
           true,
           goes_on end (option_or stage.full (Some full)) true later (λ user due at. least_end stage.dues end some user due (in_table user due at)) (blocked_at full end refused later)
-          (λ b. (one.0, one.1, omega arith, plays, same)),
+              (λ b. (one.0, one.1, omega arith, plays, same)),
         ),
       )
 
@@ -212,10 +210,10 @@ module _ (stage : Stage) (acting : IsActing stage) where
       let go : P (first_moves (stage_plan stage) (stage_state stage) t) = elim (first_moves (stage_plan stage) (stage_state stage) t) as P [
         | [] ↦ λ is. refl
         | m ∷ ms ↦ λ is. absurd (
-          let at = first_enabled (stage_plan stage) (stage_state stage) t m (subst (λ (xs : List Move). In m xs) (sym is) here) in
-          let open_one = act_open (stage_plan stage) (stage_state stage) t at.number m (at.scenario, at.stands, Contains-from_In m at.enabled) in
-          true_not_false (sym closed ∙ open_one)
-        )
+            let at = first_enabled (stage_plan stage) (stage_state stage) t m (subst (λ (xs : List Move). In m xs) (sym is) here) in
+            let open_one = act_open (stage_plan stage) (stage_state stage) t at.number m (at.scenario, at.stands, Contains-from_In m at.enabled) in
+            true_not_false (sym closed ∙ open_one)
+            )
       ] in none_first (enabled (stage_plan stage) (stage_state stage) t) (go refl)
     where
       true_not_false : true ≡ false → ⊥

@@ -1,18 +1,16 @@
 -- The stage behind an act that was performed, and where none was.
-use Rattle.std.proofs.Common.{◌≡◌, ◌≢◌, ◌<◌, ◌≤◌, ◌+◌, ◌-◌, ◌==◌, ◌&&◌, if◌then◌else◌, ℕ, zero, suc, Bool, true, false, cond, min, List, [], ◌∷◌, ◌++◌, Option, None, Some, Contains, arith, ap, length, refl, set, sym, subst, append-nil, ◌∙◌}
+use Rattle.std.proofs.Common.{◌≡◌, ◌<◌, ◌≤◌, ◌+◌, ◌-◌, ◌==◌, if◌then◌else◌, ℕ, Bool, true, false, min, List, [], ◌∷◌, ◌++◌, Option, None, Some, Contains, arith, ap, length, refl, set, sym, subst, append-nil, ◌∙◌}
 use Rattle.std.specs.Prelude.{option_map}
 use Rattle.std.specs.Option.{option_map_or}
-use Rattle.std.proofs.lemmas.Grind.{common_steps}
 use Rattle.std.proofs.lemmas.List.{length-append}
 use Rattle.ld_base.specs.Stint.{StintView}
-use Rattle.ld_base.specs.declared.act.Act.{Act}
 use Rattle.ld_base.specs.declared.act.Act.TheVariants.{Start}
 use Rattle.ld_base.specs.declared.ask.Ask.TheVariants as asks
 use Rattle.ld_base.specs.declared.entry.Entry.{Entry}
 use Rattle.ld_base.specs.declared.reply.Reply.{Reply}
 use Rattle.ld_base.specs.declared.reply.Reply.TheVariants.{Run, Wait, Over, Full}
 use Rattle.ld_base.specs.declared.reply.Room.{Room}
-use Rattle.ld_core.specs.CoreView.{CoreView, IsAsked, plan_of, state_of}
+use Rattle.ld_core.specs.CoreView.{CoreView, IsAsked}
 use Rattle.ld_machine.specs.Acts.{acts_of}
 use Rattle.ld_machine.specs.Effect.{state_after}
 use Rattle.ld_machine.specs.History.{IsLegal}
@@ -22,17 +20,16 @@ use Rattle.ld_machine.specs.Order.{first_moves}
 use Rattle.ld_machine.specs.Plan.{Plan}
 use Rattle.ld_machine.specs.Playing.{Play, play_after, play_of}
 use Rattle.ld_machine.specs.Replies.{reply_to}
-use Rattle.ld_machine.specs.State.{State, all_closed}
 use Rattle.ld_machine.specs.Step.{Result, IsStep, entries_of, performed}
 use Rattle.ld_machine.specs.WellTimed.{WellTimed}
 use Rattle.ld_machine.proofs.LegalLemmas.{goes_on_legally}
-use Rattle.ld_machine.proofs.ListLemmas.{In, here, there, Contains-from_In, number_itself, some_not_none}
+use Rattle.ld_machine.proofs.ListLemmas.{here, there, Contains-from_In, number_itself, some_not_none}
 use Rattle.ld_machine.proofs.PlayersLemmas.{player_made}
 use Rattle.ld_machine.proofs.StartsLastLemmas.{start_in_step}
 use Rattle.ld_plan.specs.PlanView.{PlanView}
-use Rattle.ld_rehearsal.specs.Dues.{due_at, due_in, due_of, play_at, ShowsDues}
+use Rattle.ld_rehearsal.specs.Dues.{due_at, due_of, play_at}
 use Rattle.ld_rehearsal.specs.Played.{IsPlayed}
-use Rattle.ld_rehearsal.specs.Stage.{full_reply, playing, stage_plan, stage_state, IsActing, IsAnswered, IsPause, IsStage}
+use Rattle.ld_rehearsal.specs.Stage.{full_reply, stage_plan, stage_state, IsActing, IsAnswered}
 use Rattle.ld_rehearsal.specs.declared.due.Due.{Due}
 use Rattle.ld_rehearsal.specs.declared.stage.Said.TheVariants as said
 use Rattle.ld_rehearsal.specs.declared.stage.Stage.{Stage}
@@ -113,7 +110,7 @@ module _ (plan : Plan) (history : List Entry) (t : ℕ) (r : Result) (step : IsS
       let started = hands_out ((state_after plan history).entries + 1) t done.0 stint (ap stint_in (sym replied) ∙ is) in
       start_in_step plan (state_after plan history) 0 t r started.0 stint.scenario stint.user stint.item stint.until timed step
       (subst (λ (es : List Entry). Contains es started.0) (sym wrote) started.1) started.2
-  
+
   pub acted_played : (long : ℕ) (first : Option Reply) → IsPlayed plan long history t first false → IsPlayed plan long (history ++ r.entries) t first false
   acted_played long first p = played_act plan long history t first done.0 r p step done.2
 

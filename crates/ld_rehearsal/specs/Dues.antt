@@ -1,5 +1,5 @@
 -- The iterations under way: when they end, and the table of them by user.
-use Rattle.std.specs.Prelude.{◌≡◌, ℕ, zero, suc, List, Option, None, Some, filter_map, length, map, min, nat_le, option_map, slice_get, unwrap_or}
+use Rattle.std.specs.Prelude.{◌≡◌, ℕ, zero, suc, List, Option, None, filter_map, length, min, nat_le, option_map, slice_get, unwrap_or}
 use Rattle.ld_base.specs.Stint.{StintView}
 use Rattle.ld_base.specs.declared.entry.Entry.{Entry}
 use Rattle.ld_machine.specs.Moment.{moment_after}

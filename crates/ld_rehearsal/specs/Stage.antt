@@ -1,5 +1,5 @@
 -- What holds of the stage of a rehearsal, and what its steps do.
-use Rattle.std.specs.Prelude.{◌≡◌, ◌<◌, ◌≤◌, ℕ, Bool, true, false, List, [], Option, None, Some, IsTrue, length, option_map}
+use Rattle.std.specs.Prelude.{◌≡◌, ◌<◌, ◌≤◌, ℕ, Bool, true, false, [], Option, None, Some, IsTrue, length, option_map}
 use Rattle.ld_base.specs.declared.entry.Entry.{Entry}
 use Rattle.ld_base.specs.declared.reply.Reply.{Reply}
 use Rattle.ld_base.specs.declared.reply.Reply.TheVariants.{Full}

@@ -206,10 +206,22 @@ impl Stage {
 fn set_aside(reply: Reply) {
     match reply {
         Reply::Run(stint) => stint.spend(),
-        Reply::Dropped { scenario: _, item: _ } => {}
-        Reply::Late { scenario: _, item: _ } => {}
-        Reply::Took { scenario: _, user: _ } => {}
-        Reply::Released { scenario: _, user: _ } => {}
+        Reply::Dropped {
+            scenario: _,
+            item: _,
+        } => {}
+        Reply::Late {
+            scenario: _,
+            item: _,
+        } => {}
+        Reply::Took {
+            scenario: _,
+            user: _,
+        } => {}
+        Reply::Released {
+            scenario: _,
+            user: _,
+        } => {}
         Reply::Stopped { scenario: _ } => {}
         Reply::Closed { scenario: _ } => {}
         Reply::Noted | Reply::Denied | Reply::Go | Reply::Halt | Reply::Over => {}

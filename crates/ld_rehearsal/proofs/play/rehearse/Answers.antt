@@ -1,5 +1,3 @@
-use Rattle.std.proofs.Common.{ap}
-use Rattle.ld_plan.specs.PlanView.{PlanView}
 use Rattle.ld_machine.specs.WellTimed.{WellTimed}
 use Rattle.ld_rehearsal.proofs.RoundLemmas.{whole_in_time, whole_rehearsed, whole_settled}
 use Rattle.ld_rehearsal.proofs.play.rehearse.Goals as goal

@@ -1,4 +1,4 @@
-use Rattle.std.proofs.Common.{ap, sym, ◌∙◌}
+use Rattle.std.proofs.Common.{ap, ◌∙◌}
 use Rattle.std.specs.Prelude.{Some}
 use Rattle.ld_rehearsal.proofs.DueLemmas.{next_step}
 use Rattle.ld_rehearsal.proofs.due.Dues.next_end.Goals as goal

@@ -8,10 +8,9 @@ returns-clause-returning c =
     let core = c.in_ok-core.core in
     let users = c.users-users.result in
     let view = c.users-users.ensures in
-    let plan = c.in_ok-core.ensures.plan in
-    (
+    let plan = c.in_ok-core.ensures.plan in (
       false,
       rw (c.in_ok-dues.ensures)
-      (opened core users.limit c.args.length c.in_ok-core.ensures.empty (rw plan view.timed) (rw plan (rw (← view.planned, ← view.limit) view.within)) c.requires
-      (view.limit ∙ ap (λ (p : PlanView). p.plan.limit) (sym plan))),
+          (opened core users.limit c.args.length c.in_ok-core.ensures.empty (rw plan view.timed) (rw plan (rw (← view.planned, ← view.limit) view.within)) c.requires
+          (view.limit ∙ ap (λ (p : PlanView). p.plan.limit) (sym plan))),
     )

@@ -13,15 +13,13 @@ loop-before-preserved c =
           rw w.self-is
           (same_moments c.args.self.now stage w.return_due.new.self c.loop-before.invariant.0 w.return_due.ensures.same, (false, w.return_due.ensures.returning), c.loop-before.invariant.2)
       | in-Some+else-due-self w ↦
-          rw w.self-is
-          (
+          rw w.self-is (
             c.loop-before.invariant.0,
             passed_by stage user (found_later stage.moment _ w.in-Some.due (sym c.get.ensures ∙ w.in-Some.is) w.if-due-self.false) c.loop-before.invariant.1,
             c.loop-before.invariant.2,
           )
       | in_default w ↦
-          rw w.self-is
-          (
+          rw w.self-is (
             c.loop-before.invariant.0,
             passed_by stage user (λ due is. absurd (some_not_none (sym is ∙ sym c.get.ensures ∙ w.in_default.is))) c.loop-before.invariant.1,
             c.loop-before.invariant.2,

@@ -26,9 +26,9 @@ returns-in-Run c =
     let dues = set old.dues (stint.user - 1) (Some (due_of old.length (play_at old.moment stint))) in
     record {
       answered = rw c.begin.ensures.begun
-      (acted old c.ask-reply.new.self (Run stint) dues c.requires.acting asked refl (shows_begun old stint c.requires.acting within.0 within.1)
-      (length-set old.dues (stint.user - 1) (Some (due_of old.length (play_at old.moment stint))))
-      (λ other is. subst (λ (o : Option StintView). option_map_or (λ (s : StintView). s.until) o 0 ≤ last_moment) is c.begin.ensures.until));
+          (acted old c.ask-reply.new.self (Run stint) dues c.requires.acting asked refl (shows_begun old stint c.requires.acting within.0 within.1)
+          (length-set old.dues (stint.user - 1) (Some (due_of old.length (play_at old.moment stint))))
+          (λ other is. subst (λ (o : Option StintView). option_map_or (λ (s : StintView). s.until) o 0 ≤ last_moment) is c.begin.ensures.until));
     }
 
 pub returns-in-Wait : goal.returns-in-Wait
@@ -48,5 +48,5 @@ returns-in_default c =
     let other = other_reply reply c.in_default.not-Run c.in_default.not-Wait c.in_default.not-Over c.in_default.not-Full in
     record {
       answered = acted old c.ask-reply.new.self reply old.dues c.requires.acting c.ask-reply.ensures.step other.0 (shows_still old reply c.requires.acting other.1) refl
-      (λ stint is. absurd (some_not_none (sym is ∙ other.1)));
+          (λ stint is. absurd (some_not_none (sym is ∙ other.1)));
     }
