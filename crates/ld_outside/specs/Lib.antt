@@ -1,3 +1,6 @@
+pub mod MemShelf
 pub mod MemSink
+pub mod Shelf
+pub mod ShelfView
 pub mod Sink
 pub mod SinkView

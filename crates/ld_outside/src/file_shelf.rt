@@ -1,0 +1,96 @@
+// The real files. They tell nothing of what they hold.
+ghost use Rattle.std.specs.Prelude.{◌<◌, ◌≤◌, length, IfSome};
+
+use crate::shelf::{Shelf, ShelfFault};
+use std::fs::{Files, OpenOptions};
+use std::io::{ErrorKind, Write};
+
+/// How often a write that a signal broke off is tried again.
+const TRIES: u32 = 64;
+
+/// The files of the machine, through the runtime that it is given. A name is a path. It counts its
+/// faults, and tells nothing of what it holds.
+#[derive(Drop)]
+pub struct FileShelf<'a, R> {
+    rt: &'a R,
+    write_faults: u64,
+}
+
+impl<'a, R: Files> FileShelf<'a, R> {
+    ghost use Rattle.std.specs.Prelude.{◌≡◌};
+
+    /// The files of the machine, with no fault counted.
+    pub fn new(rt: &'a R) -> FileShelf<'a, R>
+        ensures { result.write_faults ≡ 0 }
+    {
+        FileShelf {
+            rt,
+            write_faults: 0,
+        }
+    }
+}
+
+impl<'a, R: Files> Shelf for FileShelf<'a, R> {
+    ghost use Rattle.std.specs.Prelude.{None};
+
+    ghost seen = { λ s. record { told = None; read_faults = 0; write_faults = s.write_faults } };
+
+    fn start(&mut self, name: &str) -> Result<(), ShelfFault> {
+        if !start_file(self.rt, name) {
+            self.write_faults = self.write_faults.saturating_add(1);
+            return Err(ShelfFault::Failed);
+        }
+        Ok(())
+    }
+
+    fn append(&mut self, name: &str, piece: &[u8]) -> Result<(), ShelfFault> {
+        if !append_file(self.rt, name, piece) {
+            self.write_faults = self.write_faults.saturating_add(1);
+            return Err(ShelfFault::Failed);
+        }
+        Ok(())
+    }
+}
+
+// Makes a file empty, and answers whether that was done.
+fn start_file<R: Files>(rt: &R, name: &str) -> bool {
+    OpenOptions::new()
+        .write(true)
+        .create(true)
+        .truncate(true)
+        .open(rt, name)
+        .is_ok()
+}
+
+// Writes a piece at the end of a file, and answers whether all of it was written.
+fn append_file<R: Files>(rt: &R, name: &str, piece: &[u8]) -> bool {
+    let Ok(mut file) = OpenOptions::new().append(true).create(true).open(rt, name) else {
+        return false;
+    };
+    let mut done = 0;
+    while done < piece.len() {
+        let (_, rest) = piece.split_at(done);
+        match write_some(&mut file, rest) {
+            Some(written) => done += written,
+            None => return false,
+        }
+    }
+    true
+}
+
+// Writes a front of the piece and answers its length. None where the file failed, or took nothing of a
+// piece that has a byte.
+fn write_some<W: Write>(file: &mut W, piece: &[u8]) -> Option<usize>
+    ensures within { IfSome result (λ n. n ≤ length piece.now) }
+    ensures some { IfSome result (λ n. 0 < length piece.now → 0 < n) }
+{
+    for _ in 0..TRIES {
+        match file.write(piece) {
+            Ok(0) if !piece.is_empty() => return None,
+            Ok(written) => return Some(written),
+            Err(error) if error.kind() == ErrorKind::Interrupted => {}
+            Err(_) => return None,
+        }
+    }
+    None
+}
