@@ -13,9 +13,9 @@ same_name name = (bytes_eq-Decides name name).1 refl
 -- names that differ
 other_name : (a b : List ℕ) → a ≢ b → bytes_eq a b ≡ false
 other_name a b differ = elim (cases_Bool (bytes_eq a b)) [
-    | inl is ↦ absurd (differ ((bytes_eq-Decides a b).0 is))
-    | inr is ↦ is
-  ]
+  | inl is ↦ absurd (differ ((bytes_eq-Decides a b).0 is))
+  | inr is ↦ is
+]
 
 -- one that isn't found isn't here, and isn't later
 missed : {X : Type 0} (b : Bool) (x : X) (rest : Option X) → (if b then Some x else rest) ≡ None → (b ≡ false) × (rest ≡ None)
@@ -90,26 +90,26 @@ set_here name bytes files at file place read =
 found : (name bytes : List ℕ) (files : FileList) → file_of name (with_file name bytes files) ≡ Some bytes
 found name bytes [] = ap (λ b. if b then Some bytes else None) (same_name name)
 found name bytes (first ∷ files) = elim (cases_Bool (bytes_eq name first.0)) [
-    | inl is ↦ ap (λ b. file_of name (if b then (first.0, bytes) ∷ files else first ∷ with_file name bytes files)) is
-        ∙ ap (λ b. if b then Some bytes else file_of name files) is
-    | inr is ↦ ap (λ b. file_of name (if b then (first.0, bytes) ∷ files else first ∷ with_file name bytes files)) is
-        ∙ ap (λ b. if b then Some first.1 else file_of name (with_file name bytes files)) is
-        ∙ found name bytes files
-  ]
+  | inl is ↦ ap (λ b. file_of name (if b then (first.0, bytes) ∷ files else first ∷ with_file name bytes files)) is
+      ∙ ap (λ b. if b then Some bytes else file_of name files) is
+  | inr is ↦ ap (λ b. file_of name (if b then (first.0, bytes) ∷ files else first ∷ with_file name bytes files)) is
+      ∙ ap (λ b. if b then Some first.1 else file_of name (with_file name bytes files)) is
+      ∙ found name bytes files
+]
 
 -- other files stay
 stay : (name bytes : List ℕ) (files : FileList) → OthersStay name files (with_file name bytes files)
 stay name bytes [] other differ = ap (λ b. if b then Some bytes else None) (other_name other name differ)
 stay name bytes (first ∷ files) other differ = elim (cases_Bool (bytes_eq name first.0)) [
-    | inl is ↦
-        let differs : other ≢ first.0 = λ e. differ (e ∙ sym ((bytes_eq-Decides name first.0).0 is)) in
-        let no = other_name other first.0 differs in
-        ap (λ b. file_of other (if b then (first.0, bytes) ∷ files else first ∷ with_file name bytes files)) is
-        ∙ ap (λ b. if b then Some bytes else file_of other files) no
-        ∙ sym (ap (λ b. if b then Some first.1 else file_of other files) no)
-    | inr is ↦ ap (λ b. file_of other (if b then (first.0, bytes) ∷ files else first ∷ with_file name bytes files)) is
-        ∙ ap (λ found. if bytes_eq other first.0 then Some first.1 else found) (stay name bytes files other differ)
-  ]
+  | inl is ↦
+      let differs : other ≢ first.0 = λ e. differ (e ∙ sym ((bytes_eq-Decides name first.0).0 is)) in
+      let no = other_name other first.0 differs in
+      ap (λ b. file_of other (if b then (first.0, bytes) ∷ files else first ∷ with_file name bytes files)) is
+      ∙ ap (λ b. if b then Some bytes else file_of other files) no
+      ∙ sym (ap (λ b. if b then Some first.1 else file_of other files) no)
+  | inr is ↦ ap (λ b. file_of other (if b then (first.0, bytes) ∷ files else first ∷ with_file name bytes files)) is
+      ∙ ap (λ found. if bytes_eq other first.0 then Some first.1 else found) (stay name bytes files other differ)
+]
 
 -- the file of a name is what was put there
 pub file_is : (name bytes : List ℕ) (files : FileList) → FileIs name bytes files (with_file name bytes files)

@@ -14,4 +14,4 @@ pub is_longer : (name piece : List ℕ) (ok : Bool) (old before now : Kept) → 
     FileIs name (bytes_of name old.files ++ piece) old.files now.files
 is_longer name piece ok old before now same is =
     subst (λ kept. FileIs name (bytes_of name old.files ++ piece) old.files kept.files) (sym (is ∙ ap (appended name piece ok) same))
-        (file_is name (bytes_of name old.files ++ piece) old.files)
+    (file_is name (bytes_of name old.files ++ piece) old.files)

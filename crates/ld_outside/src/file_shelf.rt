@@ -17,7 +17,8 @@ pub struct FileShelf<'a, R> {
 }
 
 impl<'a, R: Files> FileShelf<'a, R> {
-    ghost use Rattle.std.specs.Prelude.{◌≡◌};
+    ghost use Rattle.std.specs.Prelude.{◌≡◌, ◌↔◌, IsOk, IsTrue};
+    ghost use Rattle.ld_outside.specs.Shelf.{CountsWriteFault};
 
     /// The files of the machine, with no fault counted.
     pub fn new(rt: &'a R) -> FileShelf<'a, R>
@@ -28,6 +29,18 @@ impl<'a, R: Files> FileShelf<'a, R> {
             write_faults: 0,
         }
     }
+
+    // Answers a call that was done, or counts a fault.
+    fn answer(&mut self, done: bool) -> Result<(), ShelfFault>
+        ensures ok { IsOk result ↔ IsTrue done }
+        ensures counted { CountsWriteFault self.old.write_faults result self.new.write_faults }
+    {
+        if done {
+            return Ok(());
+        }
+        self.write_faults = self.write_faults.saturating_add(1);
+        Err(ShelfFault::Failed)
+    }
 }
 
 impl<'a, R: Files> Shelf for FileShelf<'a, R> {
@@ -36,19 +49,13 @@ impl<'a, R: Files> Shelf for FileShelf<'a, R> {
     ghost seen = { λ s. record { told = None; read_faults = 0; write_faults = s.write_faults } };
 
     fn start(&mut self, name: &str) -> Result<(), ShelfFault> {
-        if !start_file(self.rt, name) {
-            self.write_faults = self.write_faults.saturating_add(1);
-            return Err(ShelfFault::Failed);
-        }
-        Ok(())
+        let done = start_file(self.rt, name);
+        self.answer(done)
     }
 
     fn append(&mut self, name: &str, piece: &[u8]) -> Result<(), ShelfFault> {
-        if !append_file(self.rt, name, piece) {
-            self.write_faults = self.write_faults.saturating_add(1);
-            return Err(ShelfFault::Failed);
-        }
-        Ok(())
+        let done = append_file(self.rt, name, piece);
+        self.answer(done)
     }
 }
 

@@ -61,7 +61,13 @@ impl KeptFiles {
     {
         let of_file = text_of(self.alloc, name)?;
         self.files.reserve(1)?;
-        note(self.alloc, &mut self.calls, ShelfCallKind::Start, name, true)?;
+        note(
+            self.alloc,
+            &mut self.calls,
+            ShelfCallKind::Start,
+            name,
+            true,
+        )?;
         set_file(&mut self.files, of_file, Bytes::of(Vec::new(self.alloc)));
         Ok(())
     }
@@ -71,7 +77,13 @@ impl KeptFiles {
         ensures ok { OnOk result (self.new ≡ not_started name.now self.old) }
         ensures err { OnErr result (self.new ≡ self.old) }
     {
-        note(self.alloc, &mut self.calls, ShelfCallKind::Start, name, false)
+        note(
+            self.alloc,
+            &mut self.calls,
+            ShelfCallKind::Start,
+            name,
+            false,
+        )
     }
 
     /// An append of this piece, which answers Ok or is told not to.

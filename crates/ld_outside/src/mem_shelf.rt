@@ -34,10 +34,10 @@ impl MemShelf {
     /// to fail, counted from 1. It takes no memory.
     pub fn new(alloc: Global, files: Files, failing: Numbers) -> MemShelf
         ensures { result ≡ record {
-            kept = record { files = files; calls = [] };
-            failing = failing;
-            made = 0;
-            faults = 0;
+          kept = record { files = files; calls = [] };
+          failing = failing;
+          made = 0;
+          faults = 0;
         } }
     {
         MemShelf {

@@ -9,8 +9,10 @@ returns-then-count_call-clause-append c =
     let is = c.in-Ok.ensures.ok ∙ ap (λ front. appended c.args.name.now front false c.self.inside.kept) c.split_at.ensures.front in
     record {
       whole = search rules;
-      front = inr (length c.args.piece.now / 2,
-          is_longer c.args.name.now (half c.args.piece.now) false c.args.self.now.kept c.self.inside.kept c.append.new.self same is);
+      front = inr (
+        length c.args.piece.now / 2,
+        is_longer c.args.name.now (half c.args.piece.now) false c.args.self.now.kept c.self.inside.kept c.append.new.self same is,
+      );
       calls = search rules;
       reads = search rules;
       faults = search rules;
