@@ -1,3 +1,4 @@
+pub mod FileShelf
 pub mod MemShelf
 pub mod MemSink
 pub mod Shelf
