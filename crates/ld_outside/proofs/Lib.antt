@@ -1,1 +1,4 @@
+pub mod FileLemmas
+pub mod FileShelfLemmas
+pub mod ShelfLemmas
 pub mod SinkLemmas

@@ -1,5 +1,7 @@
 use super::*;
-use std::alloc::AllocError;
+use ld_base::{Bytes, Text};
+use std::alloc::{AllocError, Global};
+use std::fs;
 use std::test::Fail;
 
 /// A sink that takes one byte at a time.
@@ -54,4 +56,155 @@ fn the_real_sinks_take_nothing_of_nothing(rt: HostRuntime) {
     let stderr = rt.stderr();
     assert!(rt; OutSink::new(&rt).put(b"") == Ok(0));
     assert!(rt; ErrSink::new(&stderr).put(b"") == Ok(0));
+}
+
+fn file(alloc: Global, name: &str, content: &[u8]) -> Result<(Text, Bytes), AllocError> {
+    let name = Text::of(Vec::from_slice(alloc, name.as_bytes())?);
+    let content = Bytes::of(Vec::from_slice(alloc, content)?);
+    Ok((name, content))
+}
+
+// Two files, one of them a second time under its name.
+fn files(alloc: Global) -> Result<Files, Fail> {
+    let first = file(alloc, "first", b"one")?;
+    let second = file(alloc, "second", b"two")?;
+    let again = file(alloc, "first", b"three")?;
+    Ok(Files::of(vec![in alloc; first, second, again]?))
+}
+
+// What a shelf of these files answers when a text is put under a name, and the shelf behind it.
+fn put_on_shelf(alloc: Global, failing: &[u64], name: &str) -> Result<(MemShelf, bool), Fail> {
+    let failing = Numbers::of(Vec::from_slice(alloc, failing)?);
+    let mut shelf = MemShelf::new(alloc, files(alloc)?, failing);
+    let ok = put_file(&mut shelf, name, b"text").is_ok();
+    Ok((shelf, ok))
+}
+
+// Carries a call out, and answers whether it is as was wanted.
+fn is_answered<S: Shelf>(
+    shelf: &mut S,
+    kind: ShelfCallKind,
+    name: &str,
+    piece: &[u8],
+    ok: bool,
+) -> bool {
+    let answer = match kind {
+        ShelfCallKind::Start => shelf.start(name),
+        ShelfCallKind::Append => shelf.append(name, piece),
+    };
+    match answer {
+        Ok(()) => ok,
+        Err(ShelfFault::Failed) => !ok,
+        Err(ShelfFault::Memory) => false,
+    }
+}
+
+#[test]
+fn files_are_lent_as_they_were_made(rt: HostRuntime) -> Result<(), Fail> {
+    let files = files(rt.alloc())?;
+    let want = [("first", "one"), ("second", "two"), ("first", "three")];
+    assert_eq!(rt; files.as_slice().len(), want.len());
+    for (file, (name, content)) in files.as_slice().iter().zip(want) {
+        assert_eq!(rt; file.0.as_slice(), name.as_bytes());
+        assert_eq!(rt; file.1.as_slice(), content.as_bytes());
+    }
+    Ok(())
+}
+
+#[test]
+fn a_text_is_put_on_a_shelf_in_memory(rt: HostRuntime) -> Result<(), Fail> {
+    // The calls that are to fail, the name, whether Ok is answered, and the files behind it.
+    let cases: [(&[u64], &str, bool, [Option<&str>; 3]); 7] = [
+        (&[], "first", true, [Some("text"), Some("two"), None]),
+        (&[], "second", true, [Some("one"), Some("text"), None]),
+        (&[], "third", true, [Some("one"), Some("two"), Some("text")]),
+        (&[1], "first", false, [Some("one"), Some("two"), None]),
+        (&[1], "third", false, [Some("one"), Some("two"), None]),
+        (&[2], "first", false, [Some("te"), Some("two"), None]),
+        (
+            &[3],
+            "third",
+            true,
+            [Some("one"), Some("two"), Some("text")],
+        ),
+    ];
+    for (failing, name, ok, wants) in cases {
+        let (shelf, answered) = put_on_shelf(rt.alloc(), failing, name)?;
+        assert_eq!(rt; answered, ok);
+        for (at, want) in ["first", "second", "third"].iter().zip(wants) {
+            assert_eq!(rt; shelf.file(at), want.map(|text| text.as_bytes()));
+        }
+    }
+    Ok(())
+}
+
+#[test]
+fn a_shelf_in_memory_tells_its_calls(rt: HostRuntime) -> Result<(), Fail> {
+    let alloc = rt.alloc();
+    let mut shelf = MemShelf::new(alloc, files(alloc)?, numbers(&rt, &[2, 4])?);
+    let calls = [
+        (ShelfCallKind::Append, "third", "abc", true),
+        (ShelfCallKind::Append, "third", "defg", false),
+        (ShelfCallKind::Append, "third", "hi", true),
+        (ShelfCallKind::Start, "first", "", false),
+        (ShelfCallKind::Start, "second", "", true),
+    ];
+    for (kind, name, piece, ok) in calls {
+        assert!(rt; is_answered(&mut shelf, kind, name, piece.as_bytes(), ok));
+    }
+    let wants = [("first", "one"), ("second", ""), ("third", "abcdehi")];
+    for (name, want) in wants {
+        assert_eq!(rt; shelf.file(name), Some(want.as_bytes()));
+    }
+    assert_eq!(rt; shelf.calls().len(), calls.len());
+    for (call, (kind, name, _, ok)) in shelf.calls().iter().zip(calls) {
+        assert_eq!(rt; call.kind, kind);
+        assert_eq!(rt; call.name.as_slice(), name.as_bytes());
+        assert_eq!(rt; call.answered_ok, ok);
+    }
+    Ok(())
+}
+
+#[test]
+fn a_sure_shelf_takes_each_text(rt: HostRuntime) -> Result<(), Fail> {
+    let alloc = rt.alloc();
+    let mut shelf = SureShelf::new(alloc, files(alloc)?);
+    assert!(rt; put_file(&mut shelf, "first", b"new").is_ok());
+    let calls = [
+        (ShelfCallKind::Append, "first", " text"),
+        (ShelfCallKind::Start, "third", ""),
+    ];
+    for (kind, name, piece) in calls {
+        assert!(rt; is_answered(&mut shelf, kind, name, piece.as_bytes(), true));
+    }
+    let wants = [
+        ("first", Some("new text")),
+        ("second", Some("two")),
+        ("third", Some("")),
+        ("fourth", None),
+    ];
+    for (name, want) in wants {
+        assert_eq!(rt; shelf.file(name), want.map(|text| text.as_bytes()));
+    }
+    assert_eq!(rt; shelf.calls().len(), 4);
+    Ok(())
+}
+
+#[test]
+fn a_text_is_put_into_a_real_file(rt: HostRuntime) -> Result<(), Fail> {
+    let name = "shelf_test.txt";
+    let mut shelf = FileShelf::new(&rt);
+    for text in ["a longer text", "text"] {
+        assert!(rt; put_file(&mut shelf, name, text.as_bytes()).is_ok());
+    }
+    assert!(rt; is_answered(&mut shelf, ShelfCallKind::Append, name, b" and more", true));
+    assert_eq!(rt;
+        fs::read(&rt, name)?.as_slice(),
+        b"text and more".as_slice()
+    );
+    fs::remove_file(&rt, name)?;
+    for kind in [ShelfCallKind::Start, ShelfCallKind::Append] {
+        assert!(rt; is_answered(&mut shelf, kind, "no_such_folder/file", b"text", false));
+    }
+    Ok(())
 }
