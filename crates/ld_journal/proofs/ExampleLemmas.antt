@@ -11,6 +11,6 @@ pub arrival_dropped_text : (test : List ℕ) → length test ≡ 188 →
 unfolding digits
 arrival_dropped_text test is =
     let rest : List ℕ =
-        concat (cut_lines (whole_header test) ++ flat_map entry_lines arrival_dropped ++ end_line arrival_dropped ∷ []) in
+    concat (cut_lines (whole_header test) ++ flat_map entry_lines arrival_dropped ++ end_line arrival_dropped ∷ []) in
     ap (λ n. codes "ldjournal 1\ntest " ++ ((decimal n ++ 10 ∷ []) ++ ((test ++ 10 ∷ []) ++ rest))) is
     ∙ ap (λ t. front ++ t) (append_assoc test (10 ∷ []) rest)

@@ -25,9 +25,9 @@ pub fn write(header: &Header, entries: &[Entry], into: &mut Vec<u8>) -> Result<(
     let length = into.len();
     match put_journal(header, entries, into) {
         Ok(()) => Ok(()),
-        Err(BaseFault::Memory) => {
+        Err(fault) => {
             into.truncate(length);
-            Err(JournalFault::Memory)
+            Err(JournalFault::from(fault))
         }
     }
 }
