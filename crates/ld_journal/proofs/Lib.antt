@@ -1,3 +1,2 @@
-mod TextLemmas
 mod CountLemmas
 mod ExampleLemmas

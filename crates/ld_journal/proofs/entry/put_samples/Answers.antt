@@ -1,6 +1,6 @@
 use Rattle.std.proofs.Common.{◌∙◌, sym}
 use Rattle.ld_journal.specs.Journal.{sample_line}
-use Rattle.ld_journal.proofs.TextLemmas.{one_added}
+use Rattle.ld_line.proofs.LineLemmas.{one_added}
 use Rattle.ld_journal.proofs.entry.put_samples.Goals as goal
 
 pub loop-at-preserved : goal.loop-at-preserved

@@ -1,7 +1,7 @@
 use Rattle.std.proofs.Common.{refl}
 use Rattle.std.proofs.lemmas.Option.{slice_get_read}
 use Rattle.ld_journal.specs.Journal.{entry_lines}
-use Rattle.ld_journal.proofs.TextLemmas.{element_added}
+use Rattle.ld_line.proofs.LineLemmas.{element_added}
 use Rattle.ld_journal.proofs.journal.put_entries.Goals as goal
 
 pub loop-entry-preserved : goal.loop-entry-preserved

@@ -2,7 +2,7 @@ use Rattle.std.proofs.Common.{◌++◌}
 use Rattle.std.specs.List.{flat_map}
 use Rattle.std.proofs.lemmas.Result.{on_ok_weaker}
 use Rattle.ld_journal.specs.Journal.{end_line, entry_lines, header_lines}
-use Rattle.ld_journal.proofs.TextLemmas.{line_added, lines_added}
+use Rattle.ld_line.proofs.LineLemmas.{line_added, lines_added}
 use Rattle.ld_journal.proofs.journal.put_journal.Goals as goal
 
 pub returns-clause-ok : goal.returns-clause-ok

@@ -3,7 +3,7 @@ use Rattle.std.specs.Prelude.{codes, decimal}
 use Rattle.std.proofs.lemmas.List.{append-nil}
 use Rattle.std.proofs.lemmas.Result.{on_ok_weaker}
 use Rattle.ld_line.specs.Line.{line}
-use Rattle.ld_journal.proofs.TextLemmas.{line_added}
+use Rattle.ld_line.proofs.LineLemmas.{line_added}
 use Rattle.ld_journal.proofs.journal.put_test.Goals as goal
 
 pub returns-clause-ok : goal.returns-clause-ok

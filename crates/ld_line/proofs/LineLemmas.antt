@@ -1,4 +1,4 @@
--- How far the writing of lines has come.
+-- How far the writing of lines has come, for crates that write texts line by line.
 use Rattle.std.proofs.Common.{◌≡◌, ◌<◌, ◌+◌, ◌∙◌, ◌∷◌, ◌++◌, [], ℕ, zero, suc, List, length, get_or, take, map, arith, ap, sym, refl, append_assoc}
 use Rattle.std.specs.List.{concat, flat_map}
 use Rattle.std.specs.Prelude.{Some, slice_get}
@@ -6,7 +6,6 @@ use Rattle.std.proofs.lemmas.List.{append-nil}
 use Rattle.std.proofs.lemmas.List.Concat.{flat_map_single}
 use Rattle.std.proofs.lemmas.Option.{get_or_from_slice_get, slice_get_within}
 use Rattle.std.proofs.lemmas.List.Folds.{concat-append}
-use Rattle.ld_line.specs.Line.{Grows}
 
 -- more lines behind some
 pub lines_added : (a b c : List ℕ) (lines more : List (List ℕ)) → b ≡ a ++ concat lines → c ≡ b ++ concat more →
@@ -21,10 +20,6 @@ lines_added a b c lines more so_far is =
 pub line_added : (a b c : List ℕ) (lines : List (List ℕ)) (x : List ℕ) → b ≡ a ++ concat lines → c ≡ b ++ x →
     c ≡ a ++ concat (lines ++ x ∷ [])
 line_added a b c lines x so_far is = lines_added a b c lines (x ∷ []) so_far (is ∙ ap (λ t. b ++ t) (sym (append-nil x)))
-
--- what grows behind something has grown from what was before it
-pub grows_behind : (a b c x : List ℕ) → b ≡ a ++ x → Grows b c → Grows a c
-grows_behind a b c x so_far (more, is) = (x ++ more, is ∙ ap (λ t. t ++ more) so_far ∙ append_assoc a x more)
 
 -- the lines of one element more
 flat_more : {X : Type 0} (f : X → List (List ℕ)) (xs : List X) (i : ℕ) (d : X) → i < length xs →
