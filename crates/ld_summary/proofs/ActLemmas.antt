@@ -97,9 +97,9 @@ pub history_added : (n : ℕ) (histories : List HistoryView) (i : ℕ) (history 
 history_added n histories i history before now at short so_far is =
     let first = take i histories in
     let all : acts_of (take (i + 1) histories) ≡ acts_of first ++ acts_in history =
-        ap acts_of (take_next histories i history at)
-        ∙ flat_map-append acts_in first (history ∷ [])
-        ∙ ap (λ t. acts_of first ++ t) (append-nil (acts_in history)) in
+    ap acts_of (take_next histories i history at)
+    ∙ flat_map-append acts_in first (history ∷ [])
+    ∙ ap (λ t. acts_of first ++ t) (append-nil (acts_in history)) in
     let count : length (acts_in history) ≡ length history.entries = length-map history.entries (λ (e : Entry). e.act) in
     record {
       counted =

@@ -51,11 +51,11 @@ scenario_added plans histories first n a b c name planned counts at_first has_na
     let found = named (slice_get first.wholes n) name has_name in
     let whole : Whole = found.0 in
     let at : slice_get (enumerate_from 0 (wholes_of plans)) n ≡ Some (n, whole) =
-        numbered (wholes_of plans) n whole (ap (λ (ws : List Whole). slice_get ws n) (first_wholes plans first at_first) ∙ found.1) in
+    numbered (wholes_of plans) n whole (ap (λ (ws : List Whole). slice_get ws n) (first_wholes plans first at_first) ∙ found.1) in
     let line : scenario_line name planned counts ≡ line_of plans histories (n, whole) =
-        ap (λ m. scenario_line m planned counts) found.2
-        ∙ ap (λ k. scenario_line whole.name k counts) planned_is
-        ∙ ap (λ (k : Counts). scenario_line whole.name (sum_by (owned_in n) plans) k) counts_are in
+    ap (λ m. scenario_line m planned counts) found.2
+    ∙ ap (λ k. scenario_line whole.name k counts) planned_is
+    ∙ ap (λ (k : Counts). scenario_line whole.name (sum_by (owned_in n) plans) k) counts_are in
     one_added (line_of plans histories) a b c (enumerate_from 0 (wholes_of plans)) n (n, whole) at so_far (is ∙ ap (λ t. b ++ t) line)
 
 -- all scenarios are there
