@@ -9,7 +9,7 @@ use Rattle.ld_base.specs.declared.entry.Entry.{Entry}
 use Rattle.ld_journal.specs.Journal.{end_line, entry_lines, header_lines, journal_lines, sample_line, samples_of}
 use Rattle.ld_journal.specs.declared.header.Header.{Header}
 
-entries_counted : (entries : List Entry) →
+pub entries_counted : (entries : List Entry) →
     length (flat_map entry_lines entries) ≡ sum_by (λ (entry : Entry). 1 + length (samples_of entry.act)) entries
 entries_counted [] = refl
 entries_counted (e ∷ es) =

@@ -1,5 +1,5 @@
 -- Lines of text: words joined by one space, with a line feed behind the last.
-use Rattle.std.specs.Prelude.{◌≡◌, Bool, ℕ, List, [], ◌∷◌, ◌++◌, decimal, if◌then◌else◌}
+use Rattle.std.specs.Prelude.{◌≡◌, ◌==◌, Bool, ℕ, List, [], ◌∷◌, ◌++◌, count_by, decimal, if◌then◌else◌}
 use Rattle.std.specs.List.{join_with_byte}
 use Rattle.ld_line.specs.declared.word.Word.{Word}
 use Rattle.ld_line.specs.declared.word.Word.TheVariants.{Text, Number}
@@ -31,3 +31,7 @@ next_text follows word = if follows then space ∷ word else word
 -- there is nothing else than more behind it
 abbrev pub Grows : List ℕ → List ℕ → Type 0
 Grows before after = (more : List ℕ) × (after ≡ before ++ more)
+
+-- how many line feeds a text has
+abbrev pub line_feeds : List ℕ → ℕ
+line_feeds text = count_by (λ byte. byte == line_feed) text
