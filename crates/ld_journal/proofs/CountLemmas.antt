@@ -1,12 +1,11 @@
 -- How many lines a journal has.
-use Rattle.std.proofs.Common.{◌≡◌, ◌+◌, ◌∙◌, ◌∷◌, ◌++◌, [], ℕ, List, length, map, arith, ap₂, refl, sym}
+use Rattle.std.proofs.Common.{◌≡◌, ◌+◌, ◌∙◌, ◌∷◌, [], List, length, arith, ap₂, refl, sym}
 use Rattle.std.specs.Prelude.{sum_by}
 use Rattle.std.specs.List.{flat_map}
 use Rattle.std.proofs.lemmas.List.{length-append, length-map}
-use Rattle.std.proofs.lemmas.List.Concat.{length-flat_map}
 use Rattle.std.proofs.lemmas.List.Sums.{sum_by-cons}
 use Rattle.ld_base.specs.declared.entry.Entry.{Entry}
-use Rattle.ld_journal.specs.Journal.{end_line, entry_lines, header_lines, journal_lines, sample_line, samples_of}
+use Rattle.ld_journal.specs.Journal.{end_line, entry_lines, journal_lines, sample_line, samples_of}
 use Rattle.ld_journal.specs.declared.header.Header.{Header}
 
 pub entries_counted : (entries : List Entry) →

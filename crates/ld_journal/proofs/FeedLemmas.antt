@@ -1,5 +1,5 @@
 -- How many line feeds the text of a journal has.
-use Rattle.std.proofs.Common.{◌≡◌, ◌+◌, ◌∙◌, ◌∷◌, ◌++◌, [], ℕ, Bool, true, false, List, length, map, arith, ap, ap₂, refl, subst, sym}
+use Rattle.std.proofs.Common.{◌≡◌, ◌+◌, ◌∙◌, ◌∷◌, ◌++◌, [], ℕ, Bool, true, false, List, length, map, arith, ap, ap₂, refl, subst}
 use Rattle.std.proofs.lemmas.List.{append-nil}
 use Rattle.std.proofs.lemmas.List.Elements.{recursion_from_All}
 use Rattle.std.proofs.lemmas.List.Folds.{concat-append}
@@ -15,7 +15,7 @@ use Rattle.ld_base.specs.declared.entry.Entry.{Entry}
 use Rattle.ld_base.specs.declared.sample.Sample.{Sample}
 use Rattle.ld_line.proofs.FeedLemmas.{HaveOneFeed, LackFeeds, decimal_lacks, feeds_append, feeds_of_lines, lacks_cons, one_feed}
 use Rattle.ld_line.specs.Line.{line, line_feed, line_feeds}
-use Rattle.ld_journal.specs.Journal.{act_words, command_words, cut_lines, end_line, entry_line, entry_lines, flag_word, header_lines, journal_text, outcome_word, sample_line, samples_of, test_lines}
+use Rattle.ld_journal.specs.Journal.{act_words, command_words, cut_lines, end_line, entry_line, entry_lines, flag_word, journal_text, outcome_word, sample_line, samples_of, test_lines}
 use Rattle.ld_journal.specs.Writable.{IsCutText, is_cut_byte}
 use Rattle.ld_journal.specs.declared.header.Header.{Header}
 use Rattle.ld_journal.proofs.CountLemmas.{entries_counted}
@@ -66,8 +66,7 @@ sample_words s =
 sample_feed : (s : Sample) → line_feeds (sample_line s) ≡ 1
 unfolding sample_words
 sample_feed s =
-    one_feed (sample_words s)
-    (
+    one_feed (sample_words s) (
       refl,
       (decimal_lacks s.name, (decimal_lacks s.status, (decimal_lacks s.span, (decimal_lacks s.sent, (decimal_lacks s.received, (flag_lacks s.failed, (decimal_lacks s.check_bits, tt))))))),
     )
@@ -101,7 +100,7 @@ cut_feed header segment sequence = (
   one_feed (codes "segment" ∷ header.segment ∷ []) (refl, (cut_lacks header.segment segment, tt)),
   (
     one_feed (codes "sequence" ∷ header.sequence ∷ []) (refl, (cut_lacks header.sequence sequence, tt)),
-    (one_feed (codes "entries" ∷ decimal header.entries ∷ []) (refl, (decimal_lacks header.entries, tt)), tt)
+    (one_feed (codes "entries" ∷ decimal header.entries ∷ []) (refl, (decimal_lacks header.entries, tt)), tt),
   ),
 )
 

@@ -1,5 +1,5 @@
 -- The text of a summary, line by line.
-use Rattle.std.specs.Prelude.{ℕ, List, [], ◌∷◌, ◌++◌, codes, decimal, map, sum_by}
+use Rattle.std.specs.Prelude.{ℕ, List, [], ◌∷◌, codes, decimal, map, sum_by}
 use Rattle.std.specs.List.{concat, enumerate_from}
 use Rattle.ld_base.specs.History.{HistoryView}
 use Rattle.ld_line.specs.Line.{line}

@@ -1,5 +1,5 @@
 -- Which plans and histories have a summary.
-use Rattle.std.specs.Prelude.{◌≡◌, ◌<◌, ◌≤◌, ℕ, List, All, length, zip}
+use Rattle.std.specs.Prelude.{◌≡◌, ◌<◌, ◌≤◌, List, All, length, zip}
 use Rattle.ld_base.specs.History.{HistoryView}
 use Rattle.ld_machine.specs.History.{IsLegal}
 use Rattle.ld_plan.specs.PlanView.{PlanView}

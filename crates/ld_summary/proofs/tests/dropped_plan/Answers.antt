@@ -1,4 +1,4 @@
-use Rattle.std.proofs.Common.{◌≡◌, ◌∙◌, ◌∷◌, [], ap, refl}
+use Rattle.std.proofs.Common.{◌≡◌, ◌∙◌, ◌∷◌, [], refl}
 use Rattle.std.specs.Prelude.{Err, IfOk, Ok, Result}
 use Rattle.ld_arrival.specs.Timetable.{planned}
 use Rattle.ld_machine.specs.Examples.{arrival_plan}

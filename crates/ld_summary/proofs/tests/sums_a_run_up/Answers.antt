@@ -1,4 +1,4 @@
-use Rattle.std.proofs.Common.{◌≡◌, ◌<◌, ◌∷◌, [], ℕ, zero, suc, arith, refl, rules}
+use Rattle.std.proofs.Common.{◌∷◌, [], zero, suc, arith, refl, rules}
 use Rattle.std.specs.Prelude.{All}
 use Rattle.ld_base.specs.History.{HistoryView}
 use Rattle.ld_machine.specs.History.{IsLegal}

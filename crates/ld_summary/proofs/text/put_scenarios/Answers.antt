@@ -1,6 +1,6 @@
 use Rattle.std.proofs.Common.{refl}
 use Rattle.std.proofs.lemmas.Option.{slice_get_read}
-use Rattle.ld_summary.proofs.ScenarioLemmas.{all_scenarios, scenario_added}
+use Rattle.ld_summary.proofs.ScenarioLemmas.{scenario_added}
 use Rattle.ld_summary.proofs.text.put_scenarios.Goals as goal
 
 pub loop-scenario-preserved : goal.loop-scenario-preserved

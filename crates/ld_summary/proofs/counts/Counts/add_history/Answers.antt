@@ -1,6 +1,6 @@
-use Rattle.std.proofs.Common.{◌∙◌, arith, ap, sym, rules}
+use Rattle.std.proofs.Common.{◌∙◌, ap, sym}
 use Rattle.std.specs.Option.{option_copied}
-use Rattle.ld_summary.proofs.ActLemmas.{entry_added, within_entries}
+use Rattle.ld_summary.proofs.ActLemmas.{entry_added}
 use Rattle.ld_summary.proofs.counts.Counts.add_history.Goals as goal
 
 pub loop-at-preserved : goal.loop-at-preserved
