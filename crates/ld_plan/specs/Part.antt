@@ -10,7 +10,7 @@ use Rattle.ld_plan.specs.declared.part.Part.TheInside.{Inside}
 
 -- the scenario of the whole test
 abbrev pub whole_view : Inside → Whole
-whole_view p = record { timetable = p.arrivals; owners = p.stripe.owners }
+whole_view p = record { name = p.name; timetable = p.arrivals; owners = p.stripe.owners }
 
 abbrev pub part_view : Inside → PartView
 part_view p =

@@ -1,5 +1,5 @@
 -- Plans as they are seen, and the plan that a test means.
-use Rattle.std.specs.Prelude.{◌≡◌, ℕ, List, [], ◌∷◌, map}
+use Rattle.std.specs.Prelude.{◌≡◌, ℕ, List, [], ◌∷◌, codes, map}
 use Rattle.ld_stripe.specs.Striping.{Striping, share_at}
 use Rattle.ld_arrival.specs.Timetable.{Timetable, planned_count}
 use Rattle.ld_arrival.specs.Schedule.{owned_pairs, schedule}
@@ -8,8 +8,9 @@ use Rattle.ld_plan.specs.RateTest.{timetable_of}
 use Rattle.ld_plan.specs.Requirement.{IsRequirement}
 use Rattle.ld_plan.specs.declared.rate_test.RateTest.{RateTest}
 
--- a scenario of the whole test: when its arrivals are due, and how they are striped
+-- a scenario of the whole test: its name, when its arrivals are due, and how they are striped
 pub record Whole : Type 0 where
+  pub name : List ℕ
   pub timetable : Timetable
   pub owners : List ℕ
 
@@ -23,6 +24,10 @@ pub record PlanView : Type 0 where
 -- the grace of a scenario, where none is given: 30 seconds, in nanoseconds
 abbrev pub default_grace : ℕ
 default_grace = 30000000000
+
+-- the name of the one scenario
+abbrev pub main_name : List ℕ
+main_name = codes "main"
 
 -- the striping of an instance that plays the whole test: one position, which owns every index
 abbrev pub whole_striping : Striping
@@ -39,7 +44,7 @@ owned_arrivals whole j = map arrival_of (owned_pairs whole.owners j (schedule wh
 -- The scenario of the whole test. Its items are striped by the shares that the positions have of its
 -- greatest number of users, and the one position's striping stays as it is.
 abbrev pub whole_of : RateTest → Whole
-whole_of test = record { timetable = timetable_of test; owners = whole_striping.owners }
+whole_of test = record { name = main_name; timetable = timetable_of test; owners = whole_striping.owners }
 
 -- the part of the scenario that the instance owns: it plays position 0
 abbrev pub part_of : RateTest → Part

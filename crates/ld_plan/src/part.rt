@@ -6,9 +6,13 @@ use crate::row::Row;
 use crate::striping::{of_items, share_of, whole};
 use crate::users::Users;
 use ld_arrival::{Arrivals, Ticker};
+use ld_base::Text;
 use ld_stripe::Stripe;
 use std::alloc::Global;
 use std::marker::Model;
+
+/// The name of the one scenario.
+const NAME: &[u8] = b"main";
 
 /// The grace of a scenario, where none is given: 30 seconds, in nanoseconds.
 const DEFAULT_GRACE: u64 = 30_000_000_000;
@@ -17,6 +21,7 @@ const DEFAULT_GRACE: u64 = 30_000_000_000;
 // scenario of the whole test.
 #[derive(Debug, Drop)]
 pub struct Part {
+    name: Text,
     begin: u64,
     end: u64,
     grace: u64,
@@ -65,7 +70,9 @@ impl Part {
         let arrivals = test.arrivals(alloc)?;
         let slots = whole(alloc)?;
         let stripe = of_items(alloc, test.max)?;
+        let name = Text::of(Vec::from_slice(alloc, NAME)?);
         Ok(Part {
+            name,
             begin: 0,
             end: test.duration,
             grace: DEFAULT_GRACE,
@@ -76,6 +83,13 @@ impl Part {
             arrivals,
             stripe,
         })
+    }
+
+    // The scenario's name.
+    pub fn name(&self) -> &Text
+        ensures { result.now ≡ self.now.whole.name }
+    {
+        &self.name
     }
 
     // How many items the whole test has.

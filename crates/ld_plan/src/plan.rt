@@ -6,6 +6,7 @@ use crate::rate_test::RateTest;
 use crate::row::Row;
 use crate::users::Users;
 use ld_arrival::Ticker;
+use ld_base::Text;
 use std::alloc::{AllocError, Global};
 use std::marker::Model;
 
@@ -37,6 +38,7 @@ impl Model for Plan {
 
 impl Plan {
     ghost use Rattle.std.specs.Prelude.{◌≡◌, ◌≢◌, ◌<◌, ◌≤◌, ◌↔◌, ℕ, Some, IsTrue, IfOk, IfErr, IsSomeAnd, Contains, length, map, slice_get};
+    ghost use Rattle.ld_arrival.specs.Limits.{most_arrivals};
     ghost use Rattle.ld_arrival.specs.Timetable.{moment_of};
     ghost use Rattle.ld_machine.specs.Moment.{moment_after};
     ghost use Rattle.ld_machine.specs.Plan.{Arrival, Part, due_moment, owned_items};
@@ -131,6 +133,14 @@ impl Plan {
         &self.parts[scenario as usize]
     }
 
+    /// A scenario's name.
+    pub fn name(&self, scenario: u16) -> &Text
+        requires { scenario < length self.now.plan.parts }
+        ensures { IsSomeAnd (slice_get self.now.wholes scenario) (λ whole. result.now ≡ whole.name) }
+    {
+        self.part(scenario).name()
+    }
+
     /// How many items of a scenario the whole test has.
     pub fn whole_items(&self, scenario: u16) -> u64
         requires { scenario < length self.now.plan.parts }
@@ -142,7 +152,8 @@ impl Plan {
     /// How many items of a scenario the instance owns.
     pub fn owned(&self, scenario: u16) -> u64
         requires { scenario < length self.now.plan.parts }
-        ensures { IsSomeAnd (slice_get self.now.plan.parts scenario) (λ part. result ≡ length (owned_items part.executor)) }
+        ensures owned { IsSomeAnd (slice_get self.now.plan.parts scenario) (λ part. result ≡ length (owned_items part.executor)) }
+        ensures few { result ≤ most_arrivals }
     {
         self.part(scenario).owned()
     }

@@ -36,6 +36,7 @@ fn plan_has_the_whole_test(rt: HostRuntime) -> Result<(), Fail> {
         (plan.position(), plan.entries(), plan.scenarios()),
         (0, 1_000_000, 1)
     );
+    assert_eq!(rt; plan.name(0).as_slice(), b"main".as_slice());
     assert_eq!(rt;
         plan.users(),
         Users {

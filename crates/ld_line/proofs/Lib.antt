@@ -1,0 +1,3 @@
+mod WordLemmas
+pub mod LineLemmas
+pub mod FeedLemmas

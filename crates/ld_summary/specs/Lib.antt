@@ -1,0 +1,4 @@
+pub mod Counts
+pub mod Planned
+pub mod Summary
+pub mod Summed
