@@ -292,7 +292,7 @@ number_no_list text (t ∷ ts) number are =
     (pass_behind is_number_byte t.number (t.unit ++ flat_map term_spelling ts)
     (subst (Pass is_number_byte) (are.list.spelled ∙ append_assoc t.number t.unit (flat_map term_spelling ts)) (number_passes text number))))
 
-one_duration : (text : List ℕ) (ts us : List Term) → IsDuration text ts → IsDuration text us → ts ≡ us
+pub one_duration : (text : List ℕ) (ts us : List Term) → IsDuration text ts → IsDuration text us → ts ≡ us
 one_duration text ts us (inl left) (inl right) = lists_same text ts us left.list right.list
 one_duration text ts us (inl left) (inr right) = absurd (number_no_list text ts right.0 left)
 one_duration text ts us (inr left) (inl right) = absurd (number_no_list text us left.0 right)

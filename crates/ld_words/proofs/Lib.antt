@@ -2,5 +2,4 @@ pub mod FormLemmas
 pub mod NumberLemmas
 pub mod OptionLemmas
 pub mod OptionsLemmas
-pub mod ReadingLemmas
-pub mod WordsLemmas
+pub mod ValueLemmas
