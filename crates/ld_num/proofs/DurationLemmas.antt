@@ -316,7 +316,7 @@ unfolding term_of
 adds_first number unit t tally next same_number same_unit adds ts so_far =
     subst (λ (u : Term). Tallies (ts ++ u ∷ []) next) (ap₂ term_of same_number same_unit) (adds ts so_far)
 
-not_refused_duration : (text : List ℕ) (ts : List Term) (n : ℕ) → 0 < length text → IsDuration text ts → HaveLength ts n →
+pub not_refused_duration : (text : List ℕ) (ts : List Term) (n : ℕ) → 0 < length text → IsDuration text ts → HaveLength ts n →
     (f : NumFault) → IsDurationRefusal text f → ⊥
 not_refused_duration text ts n some is have Empty refusal = absurd (let none : length text ≡ 0 = ap length refusal in omega arith)
 not_refused_duration text ts n some is have BadDigit refusal = refusal.1 ts is

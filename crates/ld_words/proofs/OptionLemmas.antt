@@ -1,12 +1,13 @@
 -- Options: their names, what stands behind some of them, and what is given under a name.
-use Rattle.std.proofs.Common.{◌≡◌, ◌≢◌, ◌<◌, ◌≤◌, ◌+◌, ◌∙◌, ◌++◌, ◌∷◌, [], ◌⊎◌, inl, inr, ℕ, List, map, true, false, arith, refl, ap, sym, subst}
+use Rattle.std.proofs.Common.{◌≡◌, ◌≢◌, ◌<◌, ◌≤◌, ◌+◌, ◌∙◌, ◌++◌, ◌∷◌, [], ◌⊎◌, inl, inr, ℕ, List, get_or, length, true, false, arith, refl, ap, sym, subst}
 use Rattle.std.specs.Prelude.{◌==◌, Bool, Option, Some, None, codes, if◌then◌else◌}
 use Rattle.std.specs.List.{AllByRecursion, after_first, before_first, flat_map, list_any}
 use Rattle.std.specs.Str.{bytes_eq}
 use Rattle.std.proofs.lemmas.List.Sums.{sum_by-append, sum_by-cons}
 use Rattle.std.proofs.lemmas.List.{append_assoc}
+use Rattle.std.proofs.lemmas.List.Folds.{list_any_at}
 use Rattle.std.proofs.lemmas.Slice.Eq.{bytes_eq-Decides}
-use Rattle.ld_words.specs.Options.{is_name, name_text, option_words, times_given, value_of, Given, Written}
+use Rattle.ld_words.specs.Options.{is_among, is_name, name_text, option_words, times_given, value_of, Given, Written}
 use Rattle.ld_words.specs.declared.option.OptionName.{OptionName}
 use Rattle.ld_words.specs.declared.option.OptionName.TheVariants.{Segment, Sequence, Rate, Unit, Duration, Pre, Max, Iteration, Journal, Entries}
 
@@ -276,3 +277,22 @@ pub value_has : (n : OptionName) (P : List ℕ → Type 0) (Q : Given → Type 0
 value_has n P Q gives [] all v some = absurd cc
 value_has n P Q gives (g ∷ gs) all v some =
     value_step n P g gs v (is_name n g.name) refl (λ is. gives g is all.0) (value_has n P Q gives gs all.1 v) some
+
+-- an option of another name gives none
+pub value_of_none_more : (n : OptionName) (gs : List Given) (g : Given) → value_of n gs ≡ None → is_name n g.name ≡ false → value_of n (gs ++ g ∷ []) ≡ None
+value_of_none_more n [] g none other = value-there n g [] other
+value_of_none_more n (h ∷ gs) g none other = more_step n h gs g None (is_name n h.name) refl (λ less. value_of_none_more n gs g less other) none
+
+-- ---- the names among which a text is looked for
+
+pub not_written : (names : List OptionName) (text : List ℕ) → list_any (λ (m : OptionName). bytes_eq text (name_text m)) names ≡ false →
+    (n : OptionName) → is_among n names ≡ true → text ≢ name_text n
+not_written names text none n among same =
+    let clash = sym among ∙ ap (λ t. list_any (λ (m : OptionName). bytes_eq t (name_text m)) names) (sym same) ∙ none in cc
+
+pub written_at : (names : List OptionName) (text : List ℕ) (i : ℕ) (d : OptionName) → i < length names → bytes_eq text (name_text (get_or names i d)) ≡ true →
+    (is_among (get_or names i d) names ≡ true) × (text ≡ name_text (get_or names i d))
+written_at names text i d inside is = (
+  list_any_at (is_name (get_or names i d)) names i d inside (is_name_itself (get_or names i d)),
+  (bytes_eq-Decides text (name_text (get_or names i d))).0 is,
+)

@@ -1,6 +1,6 @@
 -- Words that are options: one option more, and the place at which they are refused.
-use Rattle.std.proofs.Common.{◌≡◌, ◌≢◌, ◌<◌, ◌≤◌, ◌+◌, ◌∙◌, ◌++◌, ◌∷◌, ◌⊎◌, [], inl, inr, ℕ, List, length, get_or, map, take, true, false, arith, refl, ap, ap₂, sym, subst}
-use Rattle.std.specs.Prelude.{Bool, Option, Some, None, is_some, codes, slice_get, slice_index_or}
+use Rattle.std.proofs.Common.{◌≡◌, ◌≢◌, ◌<◌, ◌≤◌, ◌+◌, ◌∙◌, ◌++◌, ◌∷◌, ◌⊎◌, [], inl, inr, Bor, ℕ, List, length, get_or, map, take, true, false, arith, refl, ap, ap₂, sym, subst}
+use Rattle.std.specs.Prelude.{Bool, MatchOption, Option, Some, None, is_some, codes, slice_get, slice_index_or}
 use Rattle.std.specs.List.{AllByRecursion, flat_map}
 use Rattle.std.specs.Option.{option_map}
 use Rattle.std.proofs.lemmas.Grind.{flat_map-append}
@@ -267,6 +267,18 @@ joined_begins_none names n value given why = record {
     clash m v none valid same (inl some) = some_isn't_none (value_of n given) some (ap (λ k. value_of k given) same.0 ∙ none)
     clash m v none valid same (inr invalid) =
         invalid (subst (IsValueOf (kind_of n)) (sym same.1) (subst (λ k. IsValueOf (kind_of k) v) (sym same.0) valid))
+
+-- whether a value was found under a name
+pub is_found : (n : OptionName) (options slice : List GivenOption) (o : Option (Bor (List ℕ))) (found test : Bool) → slice ≡ options →
+    MatchOption o (value_of n (given_by slice) ≡ None) (λ x. value_of n (given_by slice) ≡ Some x.now) → found ≡ is_some o → found ≡ test →
+    is_some (value_of n (given_by options)) ≡ test
+is_found n options slice o found test same is some passed =
+    ap (λ os. is_some (value_of n (given_by os))) (sym same) ∙ step o is ∙ sym some ∙ passed
+  where
+    step : (o : Option (Bor (List ℕ))) → MatchOption o (value_of n (given_by slice) ≡ None) (λ x. value_of n (given_by slice) ≡ Some x.now) →
+        is_some (value_of n (given_by slice)) ≡ is_some o
+    step None is = ap is_some is
+    step (Some x) is = ap is_some is
 
 pub none_from_is_some : {A : Type 0} (o : Option A) → is_some o ≡ false → o ≡ None
 none_from_is_some None none = refl

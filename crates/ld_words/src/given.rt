@@ -25,7 +25,7 @@ pub fn value_under<'a>(given: &[GivenOption<'a>], name: OptionName) -> Option<&'
         (λ value. value_of name (given_by given.now) ≡ Some value.now) }
 {
     for option in given {
-        if option.name.text() == name.text() {
+        if name.text() == option.name.text() {
             return Some(option.value);
         }
     }

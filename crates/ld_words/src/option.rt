@@ -97,7 +97,7 @@ fn name_written(names: &[OptionName], text: &str) -> Option<OptionName>
         (λ n. (is_among n names.now ≡ true) × (text.now ≡ name_text n)) }
 {
     for name in names {
-        if name.text() == text {
+        if text == name.text() {
             return Some(*name);
         }
     }
