@@ -1,9 +1,10 @@
 -- Options that were read, one by one.
-use Rattle.std.proofs.Common.{◌≡◌, ◌<◌, ◌+◌, ◌∙◌, ◌++◌, ◌∷◌, [], ℕ, zero, suc, List, length, get_or, take, true, false, arith, refl, ap, sym}
-use Rattle.std.specs.Prelude.{Bool, Some, None}
+use Rattle.std.proofs.Common.{◌≡◌, ◌<◌, ◌+◌, ◌∙◌, ◌++◌, ◌∷◌, [], ℕ, zero, suc, List, length, get_or, take, true, false, arith, refl, ap, sym, subst}
+use Rattle.std.specs.Prelude.{Bool, MatchOption, Option, Some, None}
 use Rattle.std.proofs.lemmas.List.{map-append, take_more}
 use Rattle.ld_words.specs.Options.{is_name, value_of, Given}
-use Rattle.ld_words.specs.OptionWords.{given_by}
+use Rattle.ld_words.specs.OptionWords.{given_by, SpanUnder}
+use Rattle.ld_words.specs.Values.{IsSpan}
 use Rattle.ld_words.specs.declared.given.GivenOption.{GivenOption}
 use Rattle.ld_words.specs.declared.option.OptionName.{OptionName}
 use Rattle.ld_words.proofs.OptionLemmas.{value_of_none_more}
@@ -37,3 +38,9 @@ none_at_index n options i d inside none other =
     ap (λ os. value_of n (given_by os)) (take_more options i d inside)
     ∙ ap (value_of n) (given_by_more (take i options) (get_or options i d))
     ∙ value_of_none_more n (given_by (take i options)) (given_of (get_or options i d)) none other
+
+-- the duration in the text under a name
+pub span_found : (n : OptionName) (given : List Given) (text : List ℕ) (read : Option ℕ) → value_of n given ≡ Some text →
+    MatchOption read ((m : ℕ) → IsSpan text m → ⊥) (IsSpan text) → MatchOption read ((m : ℕ) → SpanUnder n given m → ⊥) (SpanUnder n given)
+span_found n given text None is never = λ m under. never m (subst (λ t. IsSpan t m) (let e : under.0 ≡ text = let same = sym under.1 ∙ is in cc in e) under.2)
+span_found n given text (Some m) is span = (text, is, span)

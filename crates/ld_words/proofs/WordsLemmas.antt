@@ -1,5 +1,5 @@
 -- The words of each form: what is asked for, and the place at which they are refused.
-use Rattle.std.proofs.Common.{◌≡◌, ◌<◌, ◌≤◌, ◌+◌, ◌∙◌, ◌++◌, ◌∷◌, ◌⊎◌, [], inl, inr, ℕ, List, length, drop, map, true, false, arith, refl, ap, sym, subst}
+use Rattle.std.proofs.Common.{◌≡◌, ◌≢◌, ◌<◌, ◌≤◌, ◌+◌, ◌∙◌, ◌++◌, ◌∷◌, ◌⊎◌, [], inl, inr, ℕ, List, length, drop, map, true, false, arith, refl, ap, sym, subst}
 use Rattle.std.specs.Prelude.{◌||◌, Bool, Option, Some, None, IsSome, MatchOption, codes, is_some, nat_lt, slice_get}
 use Rattle.std.specs.List.{list_any}
 use Rattle.std.specs.Option.{option_and_then}
@@ -7,17 +7,20 @@ use Rattle.std.proofs.lemmas.Bool.{lt-ltb}
 use Rattle.std.proofs.lemmas.List.{length-map}
 use Rattle.std.proofs.lemmas.Option.{slice_get_within}
 use Rattle.std.proofs.lemmas.Slice.Eq.{bytes_eq-Decides}
-use Rattle.ld_words.specs.Form.{IsFront, IsRefusedBy}
+use Rattle.ld_words.specs.Form.{IsFront, IsRefusal, IsRefusalBehind, IsRefusedBy}
 use Rattle.ld_words.specs.Number.{number_of}
 use Rattle.ld_words.specs.Options.{value_of, AreOptions, Given}
-use Rattle.ld_words.specs.OptionWords.{OfOptions}
+use Rattle.ld_words.specs.OptionWords.{given_by, OfOptions}
 use Rattle.ld_words.specs.Words.{form_of, is_command, most_indices, options_of, ArePace, AreWeights, AskForRehearsal, AskForSegment, AskForWeights, AsksBy}
+use Rattle.ld_words.specs.declared.fault.WordsFault.{WordsFault}
+use Rattle.ld_words.specs.declared.fault.WordsFault.TheVariants.{Refused, Memory}
 use Rattle.ld_words.specs.declared.form.FormName.{FormName}
 use Rattle.ld_words.specs.declared.form.FormName.TheVariants as forms
+use Rattle.ld_words.specs.declared.given.GivenOption.{GivenOption}
 use Rattle.ld_words.specs.declared.option.OptionName.{OptionName}
 use Rattle.ld_words.specs.declared.option.OptionName.TheVariants.{Segment, Sequence, Rate, Unit, Duration, Pre, Max, Iteration, Journal, Entries}
 use Rattle.ld_words.specs.declared.words.Words.TheVariants.{StripeWeights, StripeSegment, RehearseWords}
-use Rattle.ld_words.proofs.FormLemmas.{refused_at, refused_at_end, refused_behind}
+use Rattle.ld_words.proofs.FormLemmas.{refused_at, refused_at_end, refused_behind, refused_from}
 use Rattle.ld_words.proofs.OptionsLemmas.{no_options, options_once, value_valid, with_names}
 
 -- ---- what words of a form are
@@ -313,6 +316,28 @@ refused_more (a ∷ b ∷ c ∷ d ∷ ws) weights position count long name at_we
     (λ w more at whole. let words_are = ap length (of_weights (a ∷ b ∷ c ∷ d ∷ w ∷ more) whole).3.words_are in omega arith)
     (λ end whole. absurd (omega arith))
 
+-- ---- what the reading of options says of a form
+
+pub options_here : (form : FormName) (names : List OptionName) (read words : List (List ℕ)) (given : List Given) → names ≡ options_of form → read ≡ words →
+    AreOptions names read given → AreOptions (options_of form) words given
+options_here form names read words given same_names same are =
+    subst (λ ns. AreOptions ns words given) same_names (subst (λ ws. AreOptions names ws given) same are)
+
+pub refused_here : (form : FormName) (names : List OptionName) (read words : List (List ℕ)) (fault : WordsFault) (first behind place : ℕ) → names ≡ options_of form →
+    read ≡ drop first words → fault ≡ Refused behind → place ≡ first + behind → (fault ≢ Memory → IsRefusal (OfOptions names) read fault) →
+    IsRefusalBehind first (OfOptions (options_of form)) words (Refused place)
+refused_here form names read words fault first behind place same_names same is at refused = (
+  behind,
+  at,
+  subst (λ ns. IsRefusedBy (OfOptions ns) (drop first words) behind) same_names
+  (subst (λ ws. IsRefusedBy (OfOptions names) ws behind) same (refused_from (OfOptions names) read fault behind is refused)),
+)
+
+-- a name whose text isn't there has no value
+pub none_under : (n : OptionName) (slice items : List GivenOption) (text : Option (List ℕ)) → slice ≡ items → text ≡ value_of n (given_by slice) → text ≡ None →
+    value_of n (given_by items) ≡ None
+none_under n slice items text same is none = ap (λ os. value_of n (given_by os)) (sym same) ∙ sym is ∙ none
+
 -- ---- `stripe N` with options
 
 -- the first words are `stripe` and a number of indices
@@ -357,14 +382,16 @@ segment_options a b ws whole =
     let same : asked.option_words ≡ ws = cc in
     (asked.given, subst (λ os. AreOptions (options_of forms.StripeSegment) os asked.given) same asked.options_are)
 
-pub refused_segment_options : (words options : List (List ℕ)) (count place : ℕ) → IsCounted words count options →
-    IsRefusedBy (OfOptions (options_of forms.StripeSegment)) options place → IsRefusedBy (form_of forms.StripeSegment) words (place + 2)
-refused_segment_options words options count place is refused =
-    subst (λ ws. IsRefusedBy (form_of forms.StripeSegment) ws (place + 2)) (sym is.words_are)
-    (subst (IsRefusedBy (form_of forms.StripeSegment) (codes "stripe" ∷ is.count_word ∷ options)) (let e : length (codes "stripe" ∷ is.count_word ∷ []) + place ≡ place + 2 = omega arith in e)
-    (refused_behind (OfOptions (options_of forms.StripeSegment)) (form_of forms.StripeSegment) (codes "stripe" ∷ is.count_word ∷ []) options place
+pub refused_segment_options : (words options : List (List ℕ)) (count : ℕ) (fault : WordsFault) → IsCounted words count options →
+    drop 2 words ≡ options → IsRefusalBehind 2 (OfOptions (options_of forms.StripeSegment)) words fault → IsRefusal (form_of forms.StripeSegment) words fault
+refused_segment_options words options count Memory is behind refused = refused
+refused_segment_options words options count (Refused place) is behind refused =
+    subst (IsRefusedBy (form_of forms.StripeSegment) words) (let e : length (codes "stripe" ∷ is.count_word ∷ []) + refused.0 ≡ place = let at = refused.1 in omega arith in e)
+    (subst (λ ws. IsRefusedBy (form_of forms.StripeSegment) ws (length (codes "stripe" ∷ is.count_word ∷ []) + refused.0)) (sym is.words_are)
+    (refused_behind (OfOptions (options_of forms.StripeSegment)) (form_of forms.StripeSegment) (codes "stripe" ∷ is.count_word ∷ []) options refused.0
     (λ more are. segment_front is.count_word count more is.count_is is.count_small are)
-    (λ more whole. segment_options (codes "stripe") is.count_word more whole) refused))
+    (λ more whole. segment_options (codes "stripe") is.count_word more whole)
+    (subst (λ ws. IsRefusedBy (OfOptions (options_of forms.StripeSegment)) ws refused.0) behind refused.2)))
 
 pub asked_segment : (words options : List (List ℕ)) (count : ℕ) (given : List Given) (segment sequence : Option (List ℕ)) → IsCounted words count options →
     AreOptions (options_of forms.StripeSegment) options given → segment ≡ value_of Segment given → sequence ≡ value_of Sequence given →
@@ -386,13 +413,14 @@ asked_segment words options count given segment sequence is are segment_is seque
 }
 
 -- neither option is given
-pub refused_segment_end : (words options : List (List ℕ)) (count : ℕ) (given : List Given) → IsCounted words count options →
+pub refused_segment_end : (words options : List (List ℕ)) (count place : ℕ) (given : List Given) → length words ≡ place → IsCounted words count options →
     AreOptions (options_of forms.StripeSegment) options given → value_of Segment given ≡ None → value_of Sequence given ≡ None →
-    IsRefusedBy (form_of forms.StripeSegment) words (length words)
-refused_segment_end words options count given is are no_segment no_sequence =
-    subst (λ ws. IsRefusedBy (form_of forms.StripeSegment) ws (length ws)) (sym is.words_are)
+    IsRefusedBy (form_of forms.StripeSegment) words place
+refused_segment_end words options count place given at_end is are no_segment no_sequence =
+    subst (IsRefusedBy (form_of forms.StripeSegment) words) at_end
+    (subst (λ ws. IsRefusedBy (form_of forms.StripeSegment) ws (length ws)) (sym is.words_are)
     (refused_at_end (form_of forms.StripeSegment) (codes "stripe" ∷ is.count_word ∷ options)
-    (segment_front is.count_word count options is.count_is is.count_small (given, are)) never)
+    (segment_front is.count_word count options is.count_is is.count_small (given, are)) never))
   where
     never : form_of forms.StripeSegment (codes "stripe" ∷ is.count_word ∷ options) → ⊥
     never whole =
@@ -418,23 +446,26 @@ rehearsal_options a ws whole =
     let same : asked.option_words ≡ ws = cc in
     (asked.given, subst (λ os. AreOptions (options_of forms.RehearseWords) os asked.given) same asked.options_are)
 
-pub refused_rehearsal_options : (words options : List (List ℕ)) (place : ℕ) → words ≡ codes "rehearse" ∷ options →
-    IsRefusedBy (OfOptions (options_of forms.RehearseWords)) options place → IsRefusedBy (form_of forms.RehearseWords) words (place + 1)
-refused_rehearsal_options words options place is refused =
-    subst (λ ws. IsRefusedBy (form_of forms.RehearseWords) ws (place + 1)) (sym is)
-    (subst (IsRefusedBy (form_of forms.RehearseWords) (codes "rehearse" ∷ options)) (let e : length (codes "rehearse" ∷ []) + place ≡ place + 1 = omega arith in e)
-    (refused_behind (OfOptions (options_of forms.RehearseWords)) (form_of forms.RehearseWords) (codes "rehearse" ∷ []) options place
+pub refused_rehearsal_options : (words options : List (List ℕ)) (fault : WordsFault) → words ≡ codes "rehearse" ∷ options →
+    drop 1 words ≡ options → IsRefusalBehind 1 (OfOptions (options_of forms.RehearseWords)) words fault → IsRefusal (form_of forms.RehearseWords) words fault
+refused_rehearsal_options words options Memory is behind refused = refused
+refused_rehearsal_options words options (Refused place) is behind refused =
+    subst (IsRefusedBy (form_of forms.RehearseWords) words) (let e : length (codes "rehearse" ∷ []) + refused.0 ≡ place = let at = refused.1 in omega arith in e)
+    (subst (λ ws. IsRefusedBy (form_of forms.RehearseWords) ws (length (codes "rehearse" ∷ []) + refused.0)) (sym is)
+    (refused_behind (OfOptions (options_of forms.RehearseWords)) (form_of forms.RehearseWords) (codes "rehearse" ∷ []) options refused.0
     (λ more are. rehearsal_front more are)
-    (λ more whole. rehearsal_options (codes "rehearse") more whole) refused))
+    (λ more whole. rehearsal_options (codes "rehearse") more whole)
+    (subst (λ ws. IsRefusedBy (OfOptions (options_of forms.RehearseWords)) ws refused.0) behind refused.2)))
 
 -- an option that is required isn't given
-pub refused_rehearsal_end : (words options : List (List ℕ)) (given : List Given) → words ≡ codes "rehearse" ∷ options →
+pub refused_rehearsal_end : (words options : List (List ℕ)) (place : ℕ) (given : List Given) → length words ≡ place → words ≡ codes "rehearse" ∷ options →
     AreOptions (options_of forms.RehearseWords) options given →
     ((rate unit duration pre max iteration : ℕ) (journal : List ℕ) → ArePace given rate unit duration pre max iteration → value_of Journal given ≡ Some journal → ⊥) →
-    IsRefusedBy (form_of forms.RehearseWords) words (length words)
-refused_rehearsal_end words options given is are missing =
-    subst (λ ws. IsRefusedBy (form_of forms.RehearseWords) ws (length ws)) (sym is)
-    (refused_at_end (form_of forms.RehearseWords) (codes "rehearse" ∷ options) (rehearsal_front options (given, are)) never)
+    IsRefusedBy (form_of forms.RehearseWords) words place
+refused_rehearsal_end words options place given at_end is are missing =
+    subst (IsRefusedBy (form_of forms.RehearseWords) words) at_end
+    (subst (λ ws. IsRefusedBy (form_of forms.RehearseWords) ws (length ws)) (sym is)
+    (refused_at_end (form_of forms.RehearseWords) (codes "rehearse" ∷ options) (rehearsal_front options (given, are)) never))
   where
     never : form_of forms.RehearseWords (codes "rehearse" ∷ options) → ⊥
     never whole =

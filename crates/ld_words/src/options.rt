@@ -1,19 +1,41 @@
 // The options behind the positional words of a command line.
-ghost use Rattle.std.specs.Prelude.{◌≡◌, ◌≢◌, ◌<◌, true, ℕ, List, Some, MatchOption, MatchResult, length, map, slice_get, string_bytes, take};
-ghost use Rattle.ld_words.specs.Form.{IsRefusal};
+ghost use Rattle.std.specs.Prelude.{◌≡◌, ◌≢◌, ◌<◌, ◌≤◌, true, ℕ, List, Some, MatchOption, MatchResult, drop, length, map, slice_get, string_bytes, take};
+ghost use Rattle.ld_words.specs.Form.{IsRefusal, IsRefusalBehind};
 ghost use Rattle.ld_words.specs.Options.{is_among, kind_of, name_text, AreOptions};
 ghost use Rattle.ld_words.specs.Values.{IsValueOf};
 ghost use Rattle.ld_words.specs.OptionWords.{given_by, IsStep, OfOptions};
+ghost use Rattle.ld_words.specs.Words.{options_of};
 ghost use Rattle.ld_words.specs.declared.fault.WordsFault.{WordsFault};
 
 use crate::fault::WordsFault;
+use crate::form::FormName;
 use crate::given::{GivenOption, value_under};
 use crate::option::{OptionName, OptionWord, option_word};
 use crate::value::is_value_of;
 use std::alloc::Global;
 
+// Reads the options of a form behind the first words.
+pub fn options_behind<'a>(
+    alloc: Global,
+    form: FormName,
+    words: &'a [String],
+    first: usize,
+) -> Result<Vec<GivenOption<'a>>, WordsFault>
+    requires { first ≤ length words.now }
+    ensures { MatchResult result
+        (λ o. AreOptions (options_of form) (drop first (map string_bytes words.now)) (given_by o.items))
+        (λ f. f ≢ WordsFault.Memory → IsRefusalBehind first (OfOptions (options_of form)) (map string_bytes words.now) f) }
+{
+    let (_, behind) = words.split_at(first);
+    match read_options(alloc, form.options(), behind) {
+        Ok(given) => Ok(given),
+        Err(WordsFault::Refused(place)) => Err(WordsFault::Refused(first + place)),
+        Err(WordsFault::Memory) => Err(WordsFault::Memory),
+    }
+}
+
 // Reads words that are options of these names, each at most once, in any order.
-pub fn read_options<'a>(
+fn read_options<'a>(
     alloc: Global,
     names: &[OptionName],
     words: &'a [String],

@@ -10,7 +10,7 @@ use crate::fault::WordsFault;
 use crate::form::{FormName, is_command};
 use crate::given::{GivenOption, number_under, span_under, text_under};
 use crate::option::OptionName;
-use crate::options::read_options;
+use crate::options::options_behind;
 use crate::words::Words;
 use std::alloc::Global;
 
@@ -50,12 +50,7 @@ pub fn read_rehearsal_words(alloc: Global, words: &[String]) -> Result<Words, Wo
     if !is_command("rehearse", words) {
         return Err(WordsFault::Refused(0));
     }
-    let (_, option_words) = words.split_at(1);
-    let given = match read_options(alloc, FormName::RehearseWords.options(), option_words) {
-        Ok(given) => given,
-        Err(WordsFault::Refused(place)) => return Err(WordsFault::Refused(place + 1)),
-        Err(WordsFault::Memory) => return Err(WordsFault::Memory),
-    };
+    let given = options_behind(alloc, FormName::RehearseWords, words, 1)?;
     let Some(pace) = pace_of(&given) else {
         return Err(WordsFault::Refused(words.len()));
     };

@@ -11,7 +11,7 @@ use crate::form::{FormName, form_read, is_command};
 use crate::given::text_under;
 use crate::number::number_at;
 use crate::option::OptionName;
-use crate::options::read_options;
+use crate::options::options_behind;
 use crate::rehearsal::read_rehearsal_words;
 use crate::weights::Weights;
 use ld_base::Text;
@@ -106,12 +106,7 @@ fn read_segment_words(alloc: Global, words: &[String]) -> Result<Words, WordsFau
     let Some(count) = count_at(words, 1) else {
         return Err(WordsFault::Refused(1));
     };
-    let (_, option_words) = words.split_at(2);
-    let given = match read_options(alloc, FormName::StripeSegment.options(), option_words) {
-        Ok(given) => given,
-        Err(WordsFault::Refused(place)) => return Err(WordsFault::Refused(place + 2)),
-        Err(WordsFault::Memory) => return Err(WordsFault::Memory),
-    };
+    let given = options_behind(alloc, FormName::StripeSegment, words, 2)?;
     let segment = text_under(alloc, &given, OptionName::Segment)?;
     let sequence = text_under(alloc, &given, OptionName::Sequence)?;
     if segment.is_none() && sequence.is_none() {
