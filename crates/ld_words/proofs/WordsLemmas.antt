@@ -1,8 +1,9 @@
 -- The words of each form: what is asked for, and the place at which they are refused.
 use Rattle.std.proofs.Common.{◌≡◌, ◌≢◌, ◌<◌, ◌≤◌, ◌+◌, ◌∙◌, ◌++◌, ◌∷◌, ◌⊎◌, [], inl, inr, ℕ, List, length, drop, map, true, false, arith, refl, ap, sym, subst}
-use Rattle.std.specs.Prelude.{◌||◌, Bool, Option, Some, None, IsSome, MatchOption, codes, is_some, nat_lt, slice_get}
+use Rattle.std.specs.Prelude.{◌||◌, Bool, Option, Some, None, IsSome, Result, Ok, Err, MatchOption, MatchResult, codes, is_some, nat_lt, slice_get}
 use Rattle.std.specs.List.{list_any}
 use Rattle.std.specs.Option.{option_and_then}
+use Rattle.std.specs.Result.{IsErr, IsErrAnd}
 use Rattle.std.proofs.lemmas.Bool.{lt-ltb}
 use Rattle.std.proofs.lemmas.List.{length-map}
 use Rattle.std.proofs.lemmas.Option.{slice_get_within}
@@ -155,6 +156,17 @@ segment_front n count options at_count small is =
         },
       ),
     )
+
+-- with another list of the same options nothing more is found
+pub no_pace : (slice items : List GivenOption) → slice ≡ items →
+    ((rate unit duration pre max iteration : ℕ) → ArePace (given_by slice) rate unit duration pre max iteration → ⊥) →
+    (rate unit duration pre max iteration : ℕ) (journal : List ℕ) → ArePace (given_by items) rate unit duration pre max iteration → value_of Journal (given_by items) ≡ Some journal → ⊥
+no_pace slice items same never rate unit duration pre max iteration journal pace journal_is =
+    never rate unit duration pre max iteration (subst (λ os. ArePace (given_by os) rate unit duration pre max iteration) (sym same) pace)
+
+pub no_journal : (items : List GivenOption) → value_of Journal (given_by items) ≡ None →
+    (rate unit duration pre max iteration : ℕ) (journal : List ℕ) → ArePace (given_by items) rate unit duration pre max iteration → value_of Journal (given_by items) ≡ Some journal → ⊥
+no_journal items none rate unit duration pre max iteration journal pace journal_is = let clash = sym none ∙ journal_is in cc
 
 pub asked_rehearsal : (words options : List (List ℕ)) (given : List Given) (rate unit duration pre max iteration : ℕ) (journal : List ℕ) (entries : Option ℕ) →
     words ≡ codes "rehearse" ∷ options → AreOptions (options_of forms.RehearseWords) options given →
@@ -502,3 +514,9 @@ no_word texts bytes_of place word past at =
     let long = length-map texts bytes_of in
     let within = sym (lt-ltb place (length texts) (omega arith)) ∙ past in
     cc
+
+-- a fault that is handed on
+pub handed_on : {T : Type 0} (P : T → Type 0) (Q : WordsFault → Type 0) (result : Result T WordsFault) (fault : WordsFault) →
+    IsErr result × IsErrAnd result (λ f. f ≡ fault) → Q fault → MatchResult result P Q
+handed_on P Q (Ok x) fault is q = absurd (let e = is.0 in cc)
+handed_on P Q (Err f) fault is q = subst Q (sym is.1) q
