@@ -1,5 +1,5 @@
 -- Words that are options: one option more, and the place at which they are refused.
-use Rattle.std.proofs.Common.{◌≡◌, ◌≢◌, ◌<◌, ◌≤◌, ◌+◌, ◌∙◌, ◌++◌, ◌∷◌, ◌⊎◌, [], inl, inr, Bor, ℕ, List, length, get_or, map, take, true, false, arith, refl, ap, ap₂, sym, subst}
+use Rattle.std.proofs.Common.{◌≡◌, ◌≢◌, ◌<◌, ◌≤◌, ◌+◌, ◌∙◌, ◌++◌, ◌∷◌, ◌⊎◌, [], inl, inr, Bor, ℕ, List, length, get_or, map, take, true, false, arith, refl, ap, sym, subst}
 use Rattle.std.specs.Prelude.{Bool, MatchOption, Option, Some, None, is_some, codes, slice_get, slice_index_or}
 use Rattle.std.specs.List.{AllByRecursion, flat_map}
 use Rattle.std.specs.Option.{option_map}
@@ -8,13 +8,13 @@ use Rattle.std.proofs.Math.Seq.{take-length}
 use Rattle.std.proofs.lemmas.List.{append_assoc, append-nil, map-append, take_more}
 use Rattle.std.proofs.lemmas.Option.{slice_get-get_or, slice_get-map, slice_get_within, get_or_from_slice_get}
 use Rattle.ld_words.specs.Form.{IsFront, IsRefusedBy}
-use Rattle.ld_words.specs.Options.{is_among, is_name, kind_of, name_text, option_words, times_given, value_of, AreOptions, Given, IsOptionOf, Written}
+use Rattle.ld_words.specs.Options.{is_among, kind_of, name_text, option_words, times_given, value_of, AreOptions, Given, IsOptionOf, Written}
 use Rattle.ld_words.specs.OptionWords.{given_by, IsNotOf, IsStep, OfOptions}
 use Rattle.ld_words.specs.Values.{IsValueOf}
 use Rattle.ld_words.specs.declared.given.GivenOption.{GivenOption}
 use Rattle.ld_words.specs.declared.option.OptionName.{OptionName}
 use Rattle.ld_words.proofs.FormLemmas.{refused_at}
-use Rattle.ld_words.proofs.OptionLemmas.{alone_isn't_joined, behind_written, joined_once, name_from_text, no_written, not_given_before, same_name, same_or_other, times_more, value_has, value_of_kept, value_of_more, value_of_other}
+use Rattle.ld_words.proofs.OptionLemmas.{alone_isn't_joined, behind_written, joined_once, name_from_text, no_written, not_given_before, same_name, times_more, value_has, value_of_kept, value_of_more}
 use Rattle.ld_words.proofs.ValueLemmas.{sample}
 
 -- ---- what holds of each option

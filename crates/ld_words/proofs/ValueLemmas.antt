@@ -1,5 +1,5 @@
 -- Values of options: durations have one length, and each kind has a value.
-use Rattle.std.proofs.Common.{◌≡◌, ◌<◌, ◌≤◌, ◌∙◌, ◌∷◌, [], inl, inr, ℕ, List, length, true, false, arith, lit<, lit≤, refl, ap, sym, subst}
+use Rattle.std.proofs.Common.{◌≡◌, ◌<◌, ◌∙◌, ◌∷◌, [], inl, inr, ℕ, List, length, true, false, arith, lit<, lit≤, refl, ap, sym, subst}
 use Rattle.std.specs.Prelude.{◌/◌, ◌^◌, Bool, IsTrue, MatchOption, None, Option, Some, codes, is_some, sum_by}
 use Rattle.ld_num.specs.Duration.{HaveLength, IsDuration, IsDurationRefusal, IsNumber, Term, milliseconds, term_length}
 use Rattle.ld_num.specs.declared.fault.NumFault.{NumFault}

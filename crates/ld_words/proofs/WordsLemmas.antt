@@ -134,8 +134,7 @@ weights_form w p n weights position count are at_position at_count small = (
 segment_front : (n : List ℕ) (count : ℕ) (options : List (List ℕ)) → number_of n ≡ Some count → count ≤ most_indices →
     OfOptions (options_of forms.StripeSegment) options → IsFront (form_of forms.StripeSegment) (codes "stripe" ∷ n ∷ options)
 segment_front n count options at_count small is =
-    let whole = with_names (options_of forms.StripeSegment) (Segment ∷ []) (refl, tt) options is.0 is.1 in
-    (
+    let whole = with_names (options_of forms.StripeSegment) (Segment ∷ []) (refl, tt) options is.0 is.1 in (
       whole.more,
       (
         StripeSegment count (value_of Segment whole.all) (value_of Sequence whole.all),
@@ -206,21 +205,20 @@ rehearsal_front options is =
     let duration_value = valid Duration duration.0 duration.1 in
     let pre_value = valid Pre pre.0 pre.1 in
     let max_value = valid Max max.0 max.1 in
-    let iteration_value = valid Iteration iteration.0 iteration.1 in
-    (
+    let iteration_value = valid Iteration iteration.0 iteration.1 in (
       whole.more,
       (
         RehearseWords rate_value.0 unit_value.0 duration_value.0 pre_value.0 max_value.0 iteration_value.0 journal.0 (option_and_then number_of (value_of Entries whole.all)),
         asked_rehearsal (codes "rehearse" ∷ options ++ whole.more) (options ++ whole.more) whole.all rate_value.0 unit_value.0 duration_value.0 pre_value.0 max_value.0 iteration_value.0 journal.0 _ refl whole.are
-        (record {
-          rate_is = number Rate rate.0 rate_value.0 rate.1 rate_value.1;
-          unit_is = (unit.0, unit.1, unit_value.1);
-          duration_is = (duration.0, duration.1, duration_value.1);
-          pre_is = number Pre pre.0 pre_value.0 pre.1 pre_value.1;
-          max_is = number Max max.0 max_value.0 max.1 max_value.1;
-          iteration_is = (iteration.0, iteration.1, iteration_value.1);
-        })
-        journal.1 refl,
+            (record {
+              rate_is = number Rate rate.0 rate_value.0 rate.1 rate_value.1;
+              unit_is = (unit.0, unit.1, unit_value.1);
+              duration_is = (duration.0, duration.1, duration_value.1);
+              pre_is = number Pre pre.0 pre_value.0 pre.1 pre_value.1;
+              max_is = number Max max.0 max_value.0 max.1 max_value.1;
+              iteration_is = (iteration.0, iteration.1, iteration_value.1);
+            })
+            journal.1 refl,
       ),
     )
 
@@ -342,7 +340,7 @@ refused_here form names read words fault first behind place same_names same is a
   behind,
   at,
   subst (λ ns. IsRefusedBy (OfOptions ns) (drop first words) behind) same_names
-  (subst (λ ws. IsRefusedBy (OfOptions names) ws behind) same (refused_from (OfOptions names) read fault behind is refused)),
+      (subst (λ ws. IsRefusedBy (OfOptions names) ws behind) same (refused_from (OfOptions names) read fault behind is refused)),
 )
 
 -- a name whose text isn't there has no value

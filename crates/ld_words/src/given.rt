@@ -49,7 +49,11 @@ pub fn span_under(given: &[GivenOption<'_>], name: OptionName) -> Option<u64>
 }
 
 // The text that is given under a name, if one is.
-pub fn text_under(alloc: Global, given: &[GivenOption<'_>], name: OptionName) -> Result<Option<Text>, AllocError>
+pub fn text_under(
+    alloc: Global,
+    given: &[GivenOption<'_>],
+    name: OptionName,
+) -> Result<Option<Text>, AllocError>
     ensures { IfOk result (λ text. text ≡ value_of name (given_by given.now)) }
 {
     match value_under(given, name) {

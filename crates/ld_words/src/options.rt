@@ -115,5 +115,9 @@ fn value_at<'a>(name: OptionName, words: &'a [String], place: usize) -> Option<&
         (λ value. (slice_get (map string_bytes words.now) place ≡ Some value.now) × IsValueOf (kind_of name) value.now) }
 {
     let word = words.get(place)?.as_str();
-    if is_value_of(name.kind(), word) { Some(word) } else { None }
+    if is_value_of(name.kind(), word) {
+        Some(word)
+    } else {
+        None
+    }
 }

@@ -45,7 +45,9 @@ fn put_rate_test(
     ensures ok { OnOk result (into.new.items ≡ into.old.items ++ rate_test rate unit duration pre max) }
     ensures err { OnErr result (IsBehind into.old.items into.new.items) }
 {
-    into.extend_from_slice(b"{\"options\":{\"scenarios\":{\"main\":{\"executor\":\"constant-arrival-rate\"")?;
+    into.extend_from_slice(
+        b"{\"options\":{\"scenarios\":{\"main\":{\"executor\":\"constant-arrival-rate\"",
+    )?;
     put_count(b",\"rate\":", rate, into)?;
     put_duration(b",\"timeUnit\":\"", unit, into)?;
     put_duration(b"\",\"duration\":\"", duration, into)?;

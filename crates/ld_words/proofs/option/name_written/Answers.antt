@@ -1,6 +1,6 @@
 use Rattle.std.proofs.Common.{◌∙◌, ap, sym}
 use Rattle.std.specs.Str.{bytes_eq}
-use Rattle.ld_words.proofs.OptionLemmas.{not_written, written_at}
+use Rattle.ld_words.proofs.OptionLemmas.{written_at}
 use Rattle.ld_words.proofs.option.name_written.Goals as goal
 
 pub returns-then-eq : goal.returns-then-eq
