@@ -1,5 +1,5 @@
 // The forms of commands, and which of them words are read by.
-ghost use Rattle.std.specs.Prelude.{◌≡◌, codes, map, string_bytes};
+ghost use Rattle.std.specs.Prelude.{◌≡◌, map, string_bytes};
 ghost use Rattle.ld_words.specs.Words.{form_read, has_option_word, is_command, is_option_word, options_of};
 
 use crate::option::OptionName;

@@ -1,5 +1,5 @@
 // Numbers among the words of a command line.
-ghost use Rattle.std.specs.Prelude.{◌≡◌, List, ℕ, map, slice_get, string_bytes};
+ghost use Rattle.std.specs.Prelude.{◌≡◌, map, slice_get, string_bytes};
 ghost use Rattle.std.specs.Char.{is_ascii_digit};
 ghost use Rattle.std.specs.List.{list_all};
 ghost use Rattle.std.specs.Option.{option_and_then};

@@ -1,5 +1,5 @@
 // The words of `rehearse` that describe a test by options.
-ghost use Rattle.std.specs.Prelude.{◌≡◌, ◌≢◌, ℕ, List, MatchOption, MatchResult, Option, IfOk, Some, map, string_bytes};
+ghost use Rattle.std.specs.Prelude.{◌≢◌, ℕ, MatchOption, MatchResult, map, string_bytes};
 ghost use Rattle.ld_words.specs.Form.{IsRefusal};
 ghost use Rattle.ld_words.specs.OptionWords.{given_by};
 ghost use Rattle.ld_words.specs.Words.{form_of, ArePace, AsksBy};
