@@ -292,7 +292,7 @@ number_no_list text (t ∷ ts) number are =
     (pass_behind is_number_byte t.number (t.unit ++ flat_map term_spelling ts)
     (subst (Pass is_number_byte) (are.list.spelled ∙ append_assoc t.number t.unit (flat_map term_spelling ts)) (number_passes text number))))
 
-one_duration : (text : List ℕ) (ts us : List Term) → IsDuration text ts → IsDuration text us → ts ≡ us
+pub one_duration : (text : List ℕ) (ts us : List Term) → IsDuration text ts → IsDuration text us → ts ≡ us
 one_duration text ts us (inl left) (inl right) = lists_same text ts us left.list right.list
 one_duration text ts us (inl left) (inr right) = absurd (number_no_list text ts right.0 left)
 one_duration text ts us (inr left) (inl right) = absurd (number_no_list text us left.0 right)
@@ -316,7 +316,7 @@ unfolding term_of
 adds_first number unit t tally next same_number same_unit adds ts so_far =
     subst (λ (u : Term). Tallies (ts ++ u ∷ []) next) (ap₂ term_of same_number same_unit) (adds ts so_far)
 
-not_refused_duration : (text : List ℕ) (ts : List Term) (n : ℕ) → 0 < length text → IsDuration text ts → HaveLength ts n →
+pub not_refused_duration : (text : List ℕ) (ts : List Term) (n : ℕ) → 0 < length text → IsDuration text ts → HaveLength ts n →
     (f : NumFault) → IsDurationRefusal text f → ⊥
 not_refused_duration text ts n some is have Empty refusal = absurd (let none : length text ≡ 0 = ap length refusal in omega arith)
 not_refused_duration text ts n some is have BadDigit refusal = refusal.1 ts is

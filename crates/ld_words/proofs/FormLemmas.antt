@@ -2,9 +2,9 @@
 use Rattle.std.proofs.Common.{◌≡◌, ◌≢◌, ◌<◌, ◌≤◌, ◌+◌, ◌∙◌, ◌++◌, ◌∷◌, [], ℕ, List, length, get_or, take, drop, arith, ap, sym, subst}
 use Rattle.std.specs.Prelude.{Some, slice_get}
 use Rattle.std.proofs.Math.Decide.{dec_lt}
-use Rattle.std.proofs.Math.Seq.{append_snoc, take-take}
-use Rattle.std.proofs.lemmas.List.{append_assoc, take-append-drop, take_more}
-use Rattle.std.proofs.lemmas.Option.{slice_get-get_or}
+use Rattle.std.proofs.Math.Seq.{append_snoc, take-append-add, take-length, take-take}
+use Rattle.std.proofs.lemmas.List.{append_assoc, length-append, take-append-drop, take_more}
+use Rattle.std.proofs.lemmas.Option.{slice_get-get_or, slice_get_within}
 use Rattle.ld_words.specs.Form.{Form, IsFront, IsRefusal, IsRefusedBy}
 use Rattle.ld_words.specs.declared.fault.WordsFault.{WordsFault}
 use Rattle.ld_words.specs.declared.fault.WordsFault.TheVariants.{Refused, Memory}
@@ -73,3 +73,37 @@ pub refused_from : (form : Form) (words : List (List ℕ)) (fault : WordsFault) 
     (fault ≢ Memory → IsRefusal form words fault) → IsRefusedBy form words place
 refused_from form words (Refused at) place is refused = subst (IsRefusedBy form words) (let e : at ≡ place = cc in e) (refused (λ e. cc))
 refused_from form words Memory place is refused = cc
+
+-- ---- words of one form behind the first words of another
+
+-- What stands behind the first words is of a form of its own: wherever that form can go on, the whole can, and
+-- what the whole has behind its first words is of it. So what is refused behind them is refused there.
+pub refused_behind : (inner form : Form) (first words : List (List ℕ)) (place : ℕ) →
+    ((more : List (List ℕ)) → inner more → IsFront form (first ++ more)) →
+    ((more : List (List ℕ)) → form (first ++ more) → inner more) →
+    IsRefusedBy inner words place → IsRefusedBy form (first ++ words) (length first + place)
+refused_behind inner form first words place goes_on inside refused =
+    let within = refused.within in
+    let long = length-append first words in
+    record {
+      within = omega arith;
+      before = subst (IsFront form) (sym (take-append-add first words place)) (front (take place words) refused.before);
+      not_here = λ more_words more.
+          refused.not_here (omega arith) (back (take (place + 1) words)
+          (subst (IsFront form) (ap (λ k. take k (first ++ words)) (let e : length first + place + 1 ≡ length first + (place + 1) = omega arith in e) ∙ take-append-add first words (place + 1)) more));
+      unfinished = λ end whole. refused.unfinished (omega arith) (inside words whole);
+    }
+  where
+    front : (some : List (List ℕ)) → IsFront inner some → IsFront form (first ++ some)
+    front some is =
+        front_cut form (first ++ some) is.0 (subst (IsFront form) (sym (append_assoc first some is.0)) (goes_on (some ++ is.0) is.1))
+
+    back : (some : List (List ℕ)) → IsFront form (first ++ some) → IsFront inner some
+    back some is = (is.0, inside (some ++ is.0) (subst form (append_assoc first some is.0) is.1))
+
+-- words that can go on, but aren't of the form, are refused at their end
+pub refused_at_end : (form : Form) (words : List (List ℕ)) → IsFront form words → (form words → ⊥) → IsRefusedBy form words (length words)
+refused_at_end form words front never =
+    refused_at form words (length words) (omega arith) (subst (IsFront form) (sym (take-length words)) front)
+    (λ word more at whole. let inside = slice_get_within words (length words) word at in absurd (omega arith))
+    (λ end whole. never whole)

@@ -1,6 +1,9 @@
 pub mod FormLemmas
+pub mod GivenLemmas
 pub mod NumberLemmas
 pub mod OptionLemmas
 pub mod OptionsLemmas
+pub mod RateTestLemmas
 pub mod ReadingLemmas
+pub mod ValueLemmas
 pub mod WordsLemmas

@@ -8,7 +8,7 @@ use Rattle.std.specs.List.{list_all}
 use Rattle.std.specs.Str.Parse.{ParsesUnsigned, digits_value}
 use Rattle.std.proofs.lemmas.Str.Parse.{IsNumeralModel, numerals_by_value, parse_gives, digits_value_short}
 use Rattle.std.proofs.lemmas.List.{take_more, map-append}
-use Rattle.ld_words.specs.Words.{is_number, number_of}
+use Rattle.ld_words.specs.Number.{is_number, number_of}
 
 -- where one text is no number, they aren't numbers
 not_numbers : (texts : List (List ℕ)) (i : ℕ) → i < length texts → number_of (get_or texts i []) ≡ None →

@@ -1,103 +1,180 @@
--- Lists of options: what stands behind some of them, and one more.
-use Rattle.std.proofs.Common.{◌≡◌, ◌≢◌, ◌<◌, ◌≤◌, ◌+◌, ◌∙◌, ◌++◌, ◌∷◌, [], ℕ, List, drop, length, true, false, arith, lit<, refl, ap, sym, subst}
-use Rattle.std.specs.Prelude.{Bool, Option, Some, None, slice_index, if◌then◌else◌}
-use Rattle.std.specs.List.{flat_map}
+-- Options: their names, what stands behind some of them, and what is given under a name.
+use Rattle.std.proofs.Common.{◌≡◌, ◌≢◌, ◌<◌, ◌≤◌, ◌+◌, ◌∙◌, ◌++◌, ◌∷◌, [], ◌⊎◌, inl, inr, ℕ, List, get_or, length, true, false, arith, refl, ap, sym, subst}
+use Rattle.std.specs.Prelude.{◌==◌, Bool, Option, Some, None, codes, if◌then◌else◌}
+use Rattle.std.specs.List.{AllByRecursion, after_first, before_first, flat_map, list_any}
+use Rattle.std.specs.Str.{bytes_eq}
 use Rattle.std.proofs.lemmas.List.Sums.{sum_by-append, sum_by-cons}
-use Rattle.std.proofs.lemmas.List.{append_assoc, length-append}
-use Rattle.ld_words.specs.Options.{Given, given_words, is_name, name_text, times_given, value_of}
+use Rattle.std.proofs.lemmas.List.{append_assoc}
+use Rattle.std.proofs.lemmas.List.Folds.{list_any_at}
+use Rattle.std.proofs.lemmas.Slice.Eq.{bytes_eq-Decides}
+use Rattle.ld_words.specs.Options.{is_among, is_name, name_text, option_words, times_given, value_of, Given, Written}
 use Rattle.ld_words.specs.declared.option.OptionName.{OptionName}
-use Rattle.ld_words.specs.declared.option.OptionName.TheVariants.{Segment, Sequence}
+use Rattle.ld_words.specs.declared.option.OptionName.TheVariants.{Segment, Sequence, Rate, Unit, Duration, Pre, Max, Iteration, Journal, Entries}
 
 -- ---- names
 
--- the names differ in their fifth byte
-abbrev fifth : List ℕ → ℕ
-fifth text = slice_index text 4
+-- the name that a text is
+name_in : List ℕ → OptionName
+name_in text =
+    if bytes_eq text (codes "--segment") then Segment
+    else if bytes_eq text (codes "--sequence") then Sequence
+    else if bytes_eq text (codes "--rate") then Rate
+    else if bytes_eq text (codes "--unit") then Unit
+    else if bytes_eq text (codes "--duration") then Duration
+    else if bytes_eq text (codes "--pre") then Pre
+    else if bytes_eq text (codes "--max") then Max
+    else if bytes_eq text (codes "--iteration") then Iteration
+    else if bytes_eq text (codes "--journal") then Journal
+    else Entries
 
-less_not_same : (a b : ℕ) → a < b → a ≡ b → ⊥
-less_not_same a b less same = omega arith
-
-not_longer : (text value : List ℕ) → text ≡ text ++ 61 ∷ value → ⊥
-not_longer text value e =
-    let long = ap length e in
-    let sum = length-append text (61 ∷ value) in
-    omega arith
-
-segment_not_sequence : (rest other : List ℕ) → name_text Segment ++ rest ≡ name_text Sequence ++ other → ⊥
-segment_not_sequence rest other e = less_not_same 103 113 (lit< tt) (ap fifth e)
+name_in_text : (n : OptionName) → name_in (name_text n) ≡ n
+unfolding name_in
+name_in_text Segment = refl
+name_in_text Sequence = refl
+name_in_text Rate = refl
+name_in_text Unit = refl
+name_in_text Duration = refl
+name_in_text Pre = refl
+name_in_text Max = refl
+name_in_text Iteration = refl
+name_in_text Journal = refl
+name_in_text Entries = refl
 
 pub name_from_text : (a b : OptionName) → name_text a ≡ name_text b → a ≡ b
-name_from_text Segment Segment e = refl
-name_from_text Segment Sequence e = absurd (segment_not_sequence [] [] e)
-name_from_text Sequence Segment e = absurd (segment_not_sequence [] [] (sym e))
-name_from_text Sequence Sequence e = refl
+name_from_text a b e = sym (name_in_text a) ∙ ap name_in e ∙ name_in_text b
+
+-- no name has an equals sign
+abbrev pub is_equals : ℕ → Bool
+is_equals b = b == 61
+
+no_equals : (n : OptionName) → list_any is_equals (name_text n) ≡ false
+no_equals Segment = refl
+no_equals Sequence = refl
+no_equals Rate = refl
+no_equals Unit = refl
+no_equals Duration = refl
+no_equals Pre = refl
+no_equals Max = refl
+no_equals Iteration = refl
+no_equals Journal = refl
+no_equals Entries = refl
+
+some_equals : (n : OptionName) (v : List ℕ) → list_any is_equals (name_text n ++ 61 ∷ v) ≡ true
+some_equals Segment v = refl
+some_equals Sequence v = refl
+some_equals Rate v = refl
+some_equals Unit v = refl
+some_equals Duration v = refl
+some_equals Pre v = refl
+some_equals Max v = refl
+some_equals Iteration v = refl
+some_equals Journal v = refl
+some_equals Entries v = refl
+
+pub before_equals : (n : OptionName) (v : List ℕ) → before_first is_equals (name_text n ++ 61 ∷ v) ≡ name_text n
+before_equals Segment v = refl
+before_equals Sequence v = refl
+before_equals Rate v = refl
+before_equals Unit v = refl
+before_equals Duration v = refl
+before_equals Pre v = refl
+before_equals Max v = refl
+before_equals Iteration v = refl
+before_equals Journal v = refl
+before_equals Entries v = refl
+
+pub after_equals : (n : OptionName) (v : List ℕ) → after_first is_equals (name_text n ++ 61 ∷ v) ≡ v
+after_equals Segment v = refl
+after_equals Sequence v = refl
+after_equals Rate v = refl
+after_equals Unit v = refl
+after_equals Duration v = refl
+after_equals Pre v = refl
+after_equals Max v = refl
+after_equals Iteration v = refl
+after_equals Journal v = refl
+after_equals Entries v = refl
 
 pub alone_isn't_joined : (a b : OptionName) (value : List ℕ) → name_text a ≡ name_text b ++ 61 ∷ value → ⊥
-alone_isn't_joined Segment Segment value e = not_longer _ value e
-alone_isn't_joined Segment Sequence value e = segment_not_sequence [] _ e
-alone_isn't_joined Sequence Segment value e = segment_not_sequence _ [] (sym e)
-alone_isn't_joined Sequence Sequence value e = not_longer _ value e
+alone_isn't_joined a b value e = let clash = sym (no_equals a) ∙ ap (list_any is_equals) e ∙ some_equals b value in cc
 
 pub joined_once : (a b : OptionName) (v w : List ℕ) → name_text a ++ 61 ∷ v ≡ name_text b ++ 61 ∷ w → (a ≡ b) × (v ≡ w)
-joined_once Segment Segment v w e = (refl, ap (drop 10) e)
-joined_once Segment Sequence v w e = absurd (segment_not_sequence _ _ e)
-joined_once Sequence Segment v w e = absurd (segment_not_sequence _ _ (sym e))
-joined_once Sequence Sequence v w e = (refl, ap (drop 11) e)
+joined_once a b v w e = (
+  name_from_text a b (sym (before_equals a v) ∙ ap (before_first is_equals) e ∙ before_equals b w),
+  sym (after_equals a v) ∙ ap (after_first is_equals) e ∙ after_equals b w,
+)
 
 -- ---- what stands behind options
 
+written_of : OptionName → List ℕ → Bool → Written
+written_of n v j = record { option = record { name = n; value = v }; joined = j }
+
 -- one option in front of words that are options is the first of them
-first_from_parts : (n m : OptionName) (v w : List ℕ) (j k : Bool) (x : List (List ℕ)) (gs : List Given) →
-    given_words (record { name = n; value = v; joined = j }) ++ x
-    ≡ given_words (record { name = m; value = w; joined = k }) ++ flat_map given_words gs →
-    (n ≡ m) × (v ≡ w) × (j ≡ k) × (x ≡ flat_map given_words gs)
-first_from_parts n m v w true true x gs e =
+first_from_parts : (n m : OptionName) (v w : List ℕ) (j k : Bool) (x : List (List ℕ)) (ws : List Written) →
+    option_words (record { option = record { name = n; value = v }; joined = j }) ++ x
+    ≡ option_words (record { option = record { name = m; value = w }; joined = k }) ++ flat_map option_words ws →
+    (n ≡ m) × (v ≡ w) × (j ≡ k) × (x ≡ flat_map option_words ws)
+first_from_parts n m v w true true x ws e =
     let same = joined_once n m v w cc in
     (same.0, same.1, refl, cc)
-first_from_parts n m v w true false x gs e = absurd (alone_isn't_joined m n v cc)
-first_from_parts n m v w false true x gs e = absurd (alone_isn't_joined n m w cc)
-first_from_parts n m v w false false x gs e = (name_from_text n m cc, cc, refl, cc)
+first_from_parts n m v w true false x ws e = absurd (alone_isn't_joined m n v cc)
+first_from_parts n m v w false true x ws e = absurd (alone_isn't_joined n m w cc)
+first_from_parts n m v w false false x ws e = (name_from_text n m cc, cc, refl, cc)
 
-pub first_given : (g : Given) (x : List (List ℕ)) (gs : List Given) → given_words g ++ x ≡ flat_map given_words gs →
-    (rest : List Given) × (gs ≡ g ∷ rest) × (x ≡ flat_map given_words rest)
-first_given g x [] e = absurd (nothing g.name g.value g.joined e)
-  where
-    nothing : (n : OptionName) (v : List ℕ) (j : Bool) → given_words (record { name = n; value = v; joined = j }) ++ x ≡ [] → ⊥
-    nothing n v true e = cc
-    nothing n v false e = cc
-first_given g x (h ∷ gs) e =
-    let same = first_from_parts g.name h.name g.value h.value g.joined h.joined x gs e in
-    (gs, ap (λ (k : Given). k ∷ gs) (given_from_parts g h same.0 same.1 same.2), same.3)
-  where
-    given_of : OptionName → List ℕ → Bool → Given
-    given_of n v j = record { name = n; value = v; joined = j }
+some_words : (n : OptionName) (v : List ℕ) (j : Bool) (x : List (List ℕ)) →
+    option_words (record { option = record { name = n; value = v }; joined = j }) ++ x ≡ [] → ⊥
+some_words n v true x e = cc
+some_words n v false x e = cc
 
-    given_from_parts : (g h : Given) → g.name ≡ h.name → g.value ≡ h.value → g.joined ≡ h.joined → h ≡ g
-    given_from_parts g h names values spellings =
-        ap (λ n. given_of n h.value h.joined) (sym names)
-        ∙ ap (λ v. given_of g.name v h.joined) (sym values)
-        ∙ ap (given_of g.name g.value) (sym spellings)
+pub first_written : (w : Written) (x : List (List ℕ)) (ws : List Written) → option_words w ++ x ≡ flat_map option_words ws →
+    (rest : List Written) × (ws ≡ w ∷ rest) × (x ≡ flat_map option_words rest)
+unfolding written_of
+first_written w x [] e = absurd (some_words w.option.name w.option.value w.joined x e)
+first_written w x (v ∷ ws) e =
+    let same = first_from_parts w.option.name v.option.name w.option.value v.option.value w.joined v.joined x ws e in
+    (ws, ap (λ (k : Written). k ∷ ws) (written_from_parts w v same.0 same.1 same.2), same.3)
+  where
+    written_from_parts : (g h : Written) → g.option.name ≡ h.option.name → g.option.value ≡ h.option.value → g.joined ≡ h.joined → h ≡ g
+    written_from_parts g h names values spellings =
+        ap (λ n. written_of n h.option.value h.joined) (sym names)
+        ∙ ap (λ v. written_of g.option.name v h.joined) (sym values)
+        ∙ ap (written_of g.option.name g.option.value) (sym spellings)
 
 -- options in front of words that are options are the first of them
-pub behind_given : (gs all : List Given) (x : List (List ℕ)) → flat_map given_words gs ++ x ≡ flat_map given_words all →
-    (rest : List Given) × (all ≡ gs ++ rest) × (x ≡ flat_map given_words rest)
-behind_given [] all x e = (all, refl, e)
-behind_given (g ∷ gs) all x e =
-    let first = first_given g (flat_map given_words gs ++ x) all (sym (append_assoc (given_words g) (flat_map given_words gs) x) ∙ e) in
-    let more = behind_given gs first.0 x first.2 in
-    (more.0, first.1 ∙ ap (λ hs. g ∷ hs) more.1, more.2)
+pub behind_written : (ws all : List Written) (x : List (List ℕ)) → flat_map option_words ws ++ x ≡ flat_map option_words all →
+    (rest : List Written) × (all ≡ ws ++ rest) × (x ≡ flat_map option_words rest)
+behind_written [] all x e = (all, refl, e)
+behind_written (w ∷ ws) all x e =
+    let first = first_written w (flat_map option_words ws ++ x) all (sym (append_assoc (option_words w) (flat_map option_words ws) x) ∙ e) in
+    let more = behind_written ws first.0 x first.2 in
+    (more.0, first.1 ∙ ap (λ hs. w ∷ hs) more.1, more.2)
+
+-- words that are no option more
+pub no_written : (ws : List Written) → [] ≡ flat_map option_words ws → ws ≡ []
+no_written [] e = refl
+no_written (w ∷ ws) e = absurd (some_words w.option.name w.option.value w.joined (flat_map option_words ws) (sym e))
 
 -- ---- what is given under a name
 
-is_name_itself : (n : OptionName) → is_name n n ≡ true
-is_name_itself Segment = refl
-is_name_itself Sequence = refl
+pub is_name_itself : (n : OptionName) → is_name n n ≡ true
+is_name_itself n = (bytes_eq-Decides (name_text n) (name_text n)).1 refl
+
+pub same_name : (n m : OptionName) → is_name n m ≡ true → n ≡ m
+same_name n m is = name_from_text n m ((bytes_eq-Decides (name_text n) (name_text m)).0 is)
 
 not_name : (n m : OptionName) → n ≢ m → is_name n m ≡ false
-not_name Segment Segment other = absurd (other refl)
-not_name Segment Sequence other = refl
-not_name Sequence Segment other = refl
-not_name Sequence Sequence other = absurd (other refl)
+not_name n m other = step (is_name n m) refl
+  where
+    step : (b : Bool) → is_name n m ≡ b → is_name n m ≡ false
+    step true is = absurd (other (same_name n m is))
+    step false is = is
+
+pub same_or_other : (n m : OptionName) → (n ≡ m) ⊎ (n ≢ m)
+same_or_other n m = step (is_name n m) refl
+  where
+    step : (b : Bool) → is_name n m ≡ b → (n ≡ m) ⊎ (n ≢ m)
+    step true is = inl (same_name n m is)
+    step false is = inr (λ same. let clash = sym is ∙ ap (is_name n) (sym same) ∙ is_name_itself n in cc)
 
 times-append : (n : OptionName) (gs hs : List Given) → times_given n (gs ++ hs) ≡ times_given n gs + times_given n hs
 times-append n gs hs = sum_by-append (λ (g : Given). if is_name n g.name then 1 else 0) gs hs
@@ -168,12 +245,6 @@ not_given_before gs g rest once =
 pub times_more : (gs : List Given) (g : Given) (n : OptionName) → value_of g.name gs ≡ None → times_given n gs ≤ 1 → times_given n (gs ++ g ∷ []) ≤ 1
 times_more gs g n none once = step (is_name n g.name) refl (same_name n g.name)
   where
-    same_name : (n m : OptionName) → is_name n m ≡ true → n ≡ m
-    same_name Segment Segment is = refl
-    same_name Segment Sequence is = cc
-    same_name Sequence Segment is = cc
-    same_name Sequence Sequence is = refl
-
     step : (b : Bool) → is_name n g.name ≡ b → (is_name n g.name ≡ true → n ≡ g.name) → times_given n (gs ++ g ∷ []) ≤ 1
     step true is same =
         let sum = times-append n gs (g ∷ []) in
@@ -184,3 +255,44 @@ times_more gs g n none once = step (is_name n g.name) refl (same_name n g.name)
         let sum = times-append n gs (g ∷ []) in
         let there = times-there n g [] is in
         omega arith
+
+-- what is given stays, whatever is given behind it
+kept_step : (n : OptionName) (h : Given) (gs : List Given) (g : Given) (v : List ℕ) (b : Bool) → is_name n h.name ≡ b →
+    (value_of n gs ≡ Some v → value_of n (gs ++ g ∷ []) ≡ Some v) → value_of n (h ∷ gs) ≡ Some v → value_of n (h ∷ gs ++ g ∷ []) ≡ Some v
+kept_step n h gs g v true is more some = value-here n h (gs ++ g ∷ []) is ∙ sym (value-here n h gs is) ∙ some
+kept_step n h gs g v false is more some = value-there n h (gs ++ g ∷ []) is ∙ more (sym (value-there n h gs is) ∙ some)
+
+pub value_of_kept : (n : OptionName) (gs : List Given) (g : Given) (v : List ℕ) → value_of n gs ≡ Some v → value_of n (gs ++ g ∷ []) ≡ Some v
+value_of_kept n [] g v some = cc
+value_of_kept n (h ∷ gs) g v some = kept_step n h gs g v (is_name n h.name) refl (value_of_kept n gs g v) some
+
+-- the value under a name has what each option under that name has
+value_step : (n : OptionName) (P : List ℕ → Type 0) (g : Given) (gs : List Given) (v : List ℕ) (b : Bool) → is_name n g.name ≡ b →
+    (is_name n g.name ≡ true → P g.value) → (value_of n gs ≡ Some v → P v) → value_of n (g ∷ gs) ≡ Some v → P v
+value_step n P g gs v true is here more some = subst P (let e : g.value ≡ v = let same = sym (value-here n g gs is) ∙ some in cc in e) (here is)
+value_step n P g gs v false is here more some = more (sym (value-there n g gs is) ∙ some)
+
+pub value_has : (n : OptionName) (P : List ℕ → Type 0) (Q : Given → Type 0) → ((g : Given) → is_name n g.name ≡ true → Q g → P g.value) →
+    (gs : List Given) → AllByRecursion Q gs → (v : List ℕ) → value_of n gs ≡ Some v → P v
+value_has n P Q gives [] all v some = absurd cc
+value_has n P Q gives (g ∷ gs) all v some =
+    value_step n P g gs v (is_name n g.name) refl (λ is. gives g is all.0) (value_has n P Q gives gs all.1 v) some
+
+-- an option of another name gives none
+pub value_of_none_more : (n : OptionName) (gs : List Given) (g : Given) → value_of n gs ≡ None → is_name n g.name ≡ false → value_of n (gs ++ g ∷ []) ≡ None
+value_of_none_more n [] g none other = value-there n g [] other
+value_of_none_more n (h ∷ gs) g none other = more_step n h gs g None (is_name n h.name) refl (λ less. value_of_none_more n gs g less other) none
+
+-- ---- the names among which a text is looked for
+
+pub not_written : (names : List OptionName) (text : List ℕ) → list_any (λ (m : OptionName). bytes_eq text (name_text m)) names ≡ false →
+    (n : OptionName) → is_among n names ≡ true → text ≢ name_text n
+not_written names text none n among same =
+    let clash = sym among ∙ ap (λ t. list_any (λ (m : OptionName). bytes_eq t (name_text m)) names) (sym same) ∙ none in cc
+
+pub written_at : (names : List OptionName) (text : List ℕ) (i : ℕ) (d : OptionName) → i < length names → bytes_eq text (name_text (get_or names i d)) ≡ true →
+    (is_among (get_or names i d) names ≡ true) × (text ≡ name_text (get_or names i d))
+written_at names text i d inside is = (
+  list_any_at (is_name (get_or names i d)) names i d inside (is_name_itself (get_or names i d)),
+  (bytes_eq-Decides text (name_text (get_or names i d))).0 is,
+)

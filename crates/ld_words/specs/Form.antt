@@ -1,5 +1,5 @@
 -- Forms of commands, and the place at which words are refused that are of none.
-use Rattle.std.specs.Prelude.{◌≡◌, ◌<◌, ◌≤◌, ◌+◌, ℕ, List, ◌++◌, length, take}
+use Rattle.std.specs.Prelude.{◌≡◌, ◌<◌, ◌≤◌, ◌+◌, ℕ, List, ◌++◌, drop, length, take}
 use Rattle.ld_words.specs.declared.fault.WordsFault.{WordsFault}
 use Rattle.ld_words.specs.declared.fault.WordsFault.TheVariants.{Refused, Memory}
 
@@ -23,3 +23,9 @@ pub record IsRefusedBy (form : Form) (words : List (List ℕ)) (place : ℕ) : T
 abbrev pub IsRefusal : Form → List (List ℕ) → WordsFault → Type 0
 IsRefusal form words (Refused place) = IsRefusedBy form words place
 IsRefusal form words Memory = ⊥
+
+-- the words behind the first ones are refused, at a place among all words
+abbrev pub IsRefusalBehind : ℕ → Form → List (List ℕ) → WordsFault → Type 0
+IsRefusalBehind first form words (Refused place) =
+    (behind : ℕ) × (place ≡ first + behind) × IsRefusedBy form (drop first words) behind
+IsRefusalBehind first form words Memory = ⊥

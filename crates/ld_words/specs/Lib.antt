@@ -1,4 +1,7 @@
 pub mod Form
+pub mod Number
 pub mod Options
 pub mod OptionWords
+pub mod RateTest
+pub mod Values
 pub mod Words

@@ -1,34 +1,61 @@
 -- Options among the words of a command line.
-use Rattle.std.specs.Prelude.{◌≡◌, ◌≤◌, ◌==◌, ◌⊎◌, ℕ, Bool, true, false, not, List, [], ◌∷◌, ◌++◌, Option, IsSome, codes, count_by, find, if◌then◌else◌}
-use Rattle.std.specs.List.{flat_map, list_all}
+use Rattle.std.specs.Prelude.{◌≡◌, ◌≤◌, ℕ, Bool, true, List, [], ◌∷◌, ◌++◌, Option, codes, count_by, find, map, if◌then◌else◌}
+use Rattle.std.specs.List.{AllByRecursion, flat_map, list_any}
 use Rattle.std.specs.Option.{option_map}
+use Rattle.std.specs.Str.{bytes_eq}
+use Rattle.ld_words.specs.Values.{IsValueOf}
 use Rattle.ld_words.specs.declared.option.OptionName.{OptionName}
-use Rattle.ld_words.specs.declared.option.OptionName.TheVariants.{Segment, Sequence}
+use Rattle.ld_words.specs.declared.option.OptionName.TheVariants as names
+use Rattle.ld_words.specs.declared.value.ValueKind.{ValueKind}
+use Rattle.ld_words.specs.declared.value.ValueKind.TheVariants as kinds
 
 -- how an option's name is written
 abbrev pub name_text : OptionName → List ℕ
-name_text Segment = codes "--segment"
-name_text Sequence = codes "--sequence"
+name_text names.Segment = codes "--segment"
+name_text names.Sequence = codes "--sequence"
+name_text names.Rate = codes "--rate"
+name_text names.Unit = codes "--unit"
+name_text names.Duration = codes "--duration"
+name_text names.Pre = codes "--pre"
+name_text names.Max = codes "--max"
+name_text names.Iteration = codes "--iteration"
+name_text names.Journal = codes "--journal"
+name_text names.Entries = codes "--entries"
 
--- a value has a byte or more, and doesn't begin with a dash
-abbrev pub is_value : List ℕ → Bool
-is_value [] = false
-is_value (b ∷ _) = not (b == 45)
-
--- an option as it was given: its name and its value, as two words, or as one with `=` between them
-pub record Given : Type 0 where
-  pub name : OptionName
-  pub value : List ℕ
-  pub joined : Bool
-
-abbrev pub given_words : Given → List (List ℕ)
-given_words g = if g.joined then (name_text g.name ++ 61 ∷ g.value) ∷ [] else name_text g.name ∷ g.value ∷ []
+-- the kind of value that an option takes
+abbrev pub kind_of : OptionName → ValueKind
+kind_of names.Segment = kinds.Plain
+kind_of names.Sequence = kinds.Plain
+kind_of names.Rate = kinds.Number
+kind_of names.Unit = kinds.Span
+kind_of names.Duration = kinds.Span
+kind_of names.Pre = kinds.Number
+kind_of names.Max = kinds.Number
+kind_of names.Iteration = kinds.Span
+kind_of names.Journal = kinds.Plain
+kind_of names.Entries = kinds.Entries
 
 -- two names are one
 abbrev pub is_name : OptionName → OptionName → Bool
-is_name Segment Segment = true
-is_name Sequence Sequence = true
-is_name _ _ = false
+is_name a b = bytes_eq (name_text a) (name_text b)
+
+abbrev pub is_among : OptionName → List OptionName → Bool
+is_among name names = list_any (is_name name) names
+
+-- an option as it was given
+pub record Given : Type 0 where
+  pub name : OptionName
+  pub value : List ℕ
+
+-- an option as it stands among the words: as two words, or as one with `=` between name and value
+pub record Written : Type 0 where
+  pub option : Given
+  pub joined : Bool
+
+abbrev pub option_words : Written → List (List ℕ)
+option_words w =
+    if w.joined then (name_text w.option.name ++ 61 ∷ w.option.value) ∷ []
+    else name_text w.option.name ∷ w.option.value ∷ []
 
 -- the value that is given under a name, if one is
 abbrev pub value_of : OptionName → List Given → Option (List ℕ)
@@ -38,19 +65,15 @@ value_of name given = option_map (λ (g : Given). g.value) (find (λ (g : Given)
 abbrev pub times_given : OptionName → List Given → ℕ
 times_given name given = count_by (λ (g : Given). is_name name g.name) given
 
-abbrev pub has_value : Given → Bool
-has_value g = is_value g.value
+-- an option of one of these names, with a value of its kind
+pub record IsOptionOf (names : List OptionName) (g : Given) : Type 0 where
+  pub known : is_among g.name names ≡ true
+  pub value : IsValueOf (kind_of g.name) g.value
 
--- the words are options, one behind the other and each at most once, with these values
-pub record AreOptions (words : List (List ℕ)) (segment sequence : Option (List ℕ)) : Type 0 where
-  pub given : List Given
-  pub words_are : words ≡ flat_map given_words given
-  pub values : list_all has_value given ≡ true
+-- the words are options of these names, one behind the other in any order, and each at most once
+pub record AreOptions (names : List OptionName) (words : List (List ℕ)) (given : List Given) : Type 0 where
+  pub written : List Written
+  pub words_are : words ≡ flat_map option_words written
+  pub given_are : given ≡ map (λ (w : Written). w.option) written
+  pub each : AllByRecursion (IsOptionOf names) given
   pub once : (name : OptionName) → times_given name given ≤ 1
-  pub segment_is : segment ≡ value_of Segment given
-  pub sequence_is : sequence ≡ value_of Sequence given
-
--- the words are one option or more
-pub record AreSomeOptions (words : List (List ℕ)) (segment sequence : Option (List ℕ)) : Type 0 where
-  pub are : AreOptions words segment sequence
-  pub some : IsSome segment ⊎ IsSome sequence

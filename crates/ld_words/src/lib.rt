@@ -2,15 +2,21 @@
 #![tactic(auto)]
 
 mod fault;
+mod form;
+mod given;
 mod laws;
 mod number;
 mod option;
 mod options;
+mod rate_test;
+mod rehearsal;
+mod value;
 mod weights;
 mod words;
 
 pub use fault::WordsFault;
 pub use laws::one_meaning;
+pub use rate_test::rate_test_text;
 pub use weights::Weights;
 pub use words::{Words, read_words};
 

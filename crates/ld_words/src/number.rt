@@ -1,9 +1,9 @@
 // Numbers among the words of a command line.
-ghost use Rattle.std.specs.Prelude.{◌≡◌, List, ℕ, map, slice_get, string_bytes};
+ghost use Rattle.std.specs.Prelude.{◌≡◌, map, slice_get, string_bytes};
 ghost use Rattle.std.specs.Char.{is_ascii_digit};
 ghost use Rattle.std.specs.List.{list_all};
 ghost use Rattle.std.specs.Option.{option_and_then};
-ghost use Rattle.ld_words.specs.Words.{is_number, number_of};
+ghost use Rattle.ld_words.specs.Number.{is_number, number_of};
 
 /// The greatest number of digits of a number.
 const MOST_DIGITS: usize = 9;

@@ -1,94 +1,79 @@
 // The options behind the positional words of a command line.
-ghost use Rattle.std.specs.Prelude.{◌≡◌, ◌≢◌, ◌<◌, true, ℕ, List, IfOk, MatchOption, MatchResult, Some, drop, is_some, length, map, slice_get, string_bytes, take};
-ghost use Rattle.ld_words.specs.Form.{IsRefusal};
-ghost use Rattle.ld_words.specs.Options.{is_value, name_text, AreOptions, AreSomeOptions};
-ghost use Rattle.ld_words.specs.OptionWords.{given_under, IsPut, IsStep, OfOptions};
+ghost use Rattle.std.specs.Prelude.{◌≡◌, ◌≢◌, ◌<◌, ◌≤◌, true, ℕ, List, Some, MatchOption, MatchResult, drop, length, map, slice_get, string_bytes, take};
+ghost use Rattle.ld_words.specs.Form.{IsRefusal, IsRefusalBehind};
+ghost use Rattle.ld_words.specs.Options.{is_among, kind_of, name_text, AreOptions};
+ghost use Rattle.ld_words.specs.Values.{IsValueOf};
+ghost use Rattle.ld_words.specs.OptionWords.{given_by, IsStep, OfOptions};
+ghost use Rattle.ld_words.specs.Words.{options_of};
 ghost use Rattle.ld_words.specs.declared.fault.WordsFault.{WordsFault};
 
 use crate::fault::WordsFault;
-use crate::option::{OptionName, OptionWord, is_value, option_word};
-use ld_base::Text;
-use std::alloc::{AllocError, Global};
+use crate::form::FormName;
+use crate::given::{GivenOption, value_under};
+use crate::option::{OptionName, OptionWord, option_word};
+use crate::value::is_value_of;
+use std::alloc::Global;
 
-/// The values that options have, where they are given.
-#[derive(Debug, Drop)]
-pub struct Options {
-    pub segment: Option<Text>,
-    pub sequence: Option<Text>,
-}
-
-impl Options {
-    // No option is given.
-    fn none() -> Options
-        ensures segment { result.segment ≡ None }
-        ensures sequence { result.sequence ≡ None }
-    {
-        Options {
-            segment: None,
-            sequence: None,
-        }
-    }
-
-    // Whether an option is given under this name.
-    fn has(&self, name: OptionName) -> bool
-        ensures { result ≡ is_some (given_under name self.now) }
-    {
-        match name {
-            OptionName::Segment => self.segment.is_some(),
-            OptionName::Sequence => self.sequence.is_some(),
-        }
-    }
-
-    // Puts a value under a name.
-    fn put(&mut self, alloc: Global, name: OptionName, value: &[u8]) -> Result<(), AllocError>
-        ensures { IfOk result (λ _. IsPut name value.now self.old self.new) }
-    {
-        let value = Some(Text::of(Vec::from_slice(alloc, value)?));
-        match name {
-            OptionName::Segment => self.segment = value,
-            OptionName::Sequence => self.sequence = value,
-        }
-        Ok(())
-    }
-}
-
-// Reads words that are one option or more, each at most once, in any order.
-pub fn read_options(alloc: Global, words: &[String]) -> Result<Options, WordsFault>
+// Reads the options of a form behind the first words.
+pub fn options_behind<'a>(
+    alloc: Global,
+    form: FormName,
+    words: &'a [String],
+    first: usize,
+) -> Result<Vec<GivenOption<'a>>, WordsFault>
+    requires { first ≤ length words.now }
     ensures { MatchResult result
-        (λ o. AreSomeOptions (map string_bytes words.now) o.segment o.sequence)
-        (λ f. f ≢ WordsFault.Memory → IsRefusal OfOptions (map string_bytes words.now) f) }
+        (λ o. AreOptions (options_of form) (drop first (map string_bytes words.now)) (given_by o.items))
+        (λ f. f ≢ WordsFault.Memory → IsRefusalBehind first (OfOptions (options_of form)) (map string_bytes words.now) f) }
 {
-    let mut options = Options::none();
+    let (_, behind) = words.split_at(first);
+    match read_options(alloc, form.options(), behind) {
+        Ok(given) => Ok(given),
+        Err(WordsFault::Refused(place)) => Err(WordsFault::Refused(first + place)),
+        Err(WordsFault::Memory) => Err(WordsFault::Memory),
+    }
+}
+
+// Reads words that are options of these names, each at most once, in any order.
+fn read_options<'a>(
+    alloc: Global,
+    names: &[OptionName],
+    words: &'a [String],
+) -> Result<Vec<GivenOption<'a>>, WordsFault>
+    ensures { MatchResult result
+        (λ o. AreOptions names.now (map string_bytes words.now) (given_by o.items))
+        (λ f. f ≢ WordsFault.Memory → IsRefusal (OfOptions names.now) (map string_bytes words.now) f) }
+{
+    let mut given = Vec::new(alloc);
     let mut place = 0;
     while place < words.len() {
-        place = read_option(alloc, words, place, &mut options)?;
+        place = read_option(names, words, place, &mut given)?;
     }
-    if options.segment.is_none() && options.sequence.is_none() {
-        return Err(WordsFault::Refused(place));
-    }
-    Ok(options)
+    Ok(given)
 }
 
 // Reads the option at a place, behind others, and answers the place behind it.
-fn read_option(
-    alloc: Global,
-    words: &[String],
+fn read_option<'a>(
+    names: &[OptionName],
+    words: &'a [String],
     place: usize,
-    options: &mut Options,
+    given: &mut Vec<GivenOption<'a>>,
 ) -> Result<usize, WordsFault>
     requires within { place < length words.now }
-    requires read { AreOptions (take place (map string_bytes words.now)) options.old.segment options.old.sequence }
+    requires read { AreOptions names.now (take place (map string_bytes words.now)) (given_by given.old.items) }
     ensures { MatchResult result
-        (λ behind. IsStep (map string_bytes words.now) place behind options.new)
-        (λ f. f ≢ WordsFault.Memory → IsRefusal OfOptions (map string_bytes words.now) f) }
+        (λ behind. IsStep names.now (map string_bytes words.now) place behind given.new.items)
+        (λ f. f ≢ WordsFault.Memory → IsRefusal (OfOptions names.now) (map string_bytes words.now) f) }
 {
-    match option_word(words[place].as_bytes()) {
-        OptionWord::Name(name) => read_apart(alloc, words, place, name, options),
+    match option_word(names, words[place].as_str()) {
+        OptionWord::Name(name) => read_apart(names, words, place, name, given),
         OptionWord::Joined(name, value) => {
-            if options.has(name) || !is_value(value) {
+            if value_under(given, name).is_some() || !is_value_of(name.kind(), value) {
                 return Err(WordsFault::Refused(place));
             }
-            options.put(alloc, name, value)?;
+            let Ok(()) = given.push(GivenOption { name, value }) else {
+                return Err(WordsFault::Memory);
+            };
             Ok(place + 1)
         }
         OptionWord::Other => Err(WordsFault::Refused(place)),
@@ -96,36 +81,43 @@ fn read_option(
 }
 
 // Reads an option whose name stands alone at a place, with its value behind it.
-fn read_apart(
-    alloc: Global,
-    words: &[String],
+fn read_apart<'a>(
+    names: &[OptionName],
+    words: &'a [String],
     place: usize,
     name: OptionName,
-    options: &mut Options,
+    given: &mut Vec<GivenOption<'a>>,
 ) -> Result<usize, WordsFault>
     requires within { place < length words.now }
+    requires known { is_among name names.now ≡ true }
     requires name { slice_get (map string_bytes words.now) place ≡ Some (name_text name) }
-    requires read { AreOptions (take place (map string_bytes words.now)) options.old.segment options.old.sequence }
+    requires read { AreOptions names.now (take place (map string_bytes words.now)) (given_by given.old.items) }
     ensures { MatchResult result
-        (λ behind. IsStep (map string_bytes words.now) place behind options.new)
-        (λ f. f ≢ WordsFault.Memory → IsRefusal OfOptions (map string_bytes words.now) f) }
+        (λ behind. IsStep names.now (map string_bytes words.now) place behind given.new.items)
+        (λ f. f ≢ WordsFault.Memory → IsRefusal (OfOptions names.now) (map string_bytes words.now) f) }
 {
-    if options.has(name) {
+    if value_under(given, name).is_some() {
         return Err(WordsFault::Refused(place));
     }
-    let Some(value) = value_at(words, place + 1) else {
+    let Some(value) = value_at(name, words, place + 1) else {
         return Err(WordsFault::Refused(place + 1));
     };
-    options.put(alloc, name, value)?;
+    let Ok(()) = given.push(GivenOption { name, value }) else {
+        return Err(WordsFault::Memory);
+    };
     Ok(place + 2)
 }
 
-// The value that the word at a place is, if it is there and is one.
-fn value_at(words: &[String], place: usize) -> Option<&[u8]>
+// The value of an option that the word at a place is, if it is there and is one.
+fn value_at<'a>(name: OptionName, words: &'a [String], place: usize) -> Option<&'a str>
     ensures { MatchOption result
-        ((word : List ℕ) → slice_get (map string_bytes words.now) place ≡ Some word → is_value word ≡ true → ⊥)
-        (λ value. (slice_get (map string_bytes words.now) place ≡ Some value.now) × (is_value value.now ≡ true)) }
+        ((word : List ℕ) → slice_get (map string_bytes words.now) place ≡ Some word → IsValueOf (kind_of name) word → ⊥)
+        (λ value. (slice_get (map string_bytes words.now) place ≡ Some value.now) × IsValueOf (kind_of name) value.now) }
 {
-    let word = words.get(place)?.as_bytes();
-    if is_value(word) { Some(word) } else { None }
+    let word = words.get(place)?.as_str();
+    if is_value_of(name.kind(), word) {
+        Some(word)
+    } else {
+        None
+    }
 }

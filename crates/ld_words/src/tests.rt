@@ -69,6 +69,163 @@ fn words_are_refused(rt: HostRuntime) -> Result<(), Fail> {
     Ok(())
 }
 
+/// Words of `rehearse` that are refused, each at its place.
+#[test]
+fn rehearsals_are_refused(rt: HostRuntime) -> Result<(), Fail> {
+    let table = [
+        ("rehears --rate 2", 0),
+        ("rehearse", 1),
+        ("rehearse t.json", 1),
+        ("rehearse --make 3", 1),
+        ("rehearse --make=3", 1),
+        ("rehearse _ --rate 2", 1),
+        ("rehearse --", 1),
+        ("rehearse -rate 2", 1),
+        ("rehearse --segment 1", 1),
+        ("rehearse --rate=", 1),
+        ("rehearse --rate=1234567890", 1),
+        ("rehearse --rate=-2", 1),
+        ("rehearse --unit=0s", 1),
+        ("rehearse --unit=0", 1),
+        ("rehearse --unit=1.5ns", 1),
+        ("rehearse --unit=31d", 1),
+        ("rehearse --unit=1w", 1),
+        ("rehearse --entries=9", 1),
+        ("rehearse --entries=1000001", 1),
+        ("rehearse --journal=-", 1),
+        ("rehearse --journal=", 1),
+        ("rehearse --rate", 2),
+        ("rehearse --rate _", 2),
+        ("rehearse --rate -2", 2),
+        ("rehearse --rate 1234567890", 2),
+        ("rehearse --rate x", 2),
+        ("rehearse --rate --unit", 2),
+        ("rehearse --unit 0s", 2),
+        ("rehearse --unit s", 2),
+        ("rehearse --iteration 0ns", 2),
+        ("rehearse --entries 9", 2),
+        ("rehearse --entries 1000001", 2),
+        ("rehearse --entries 10s", 2),
+        ("rehearse --journal -j", 2),
+        ("rehearse --journal _", 2),
+        ("rehearse --rate=2", 2),
+        ("rehearse --rate 2", 3),
+        ("rehearse --rate 2 t.json", 3),
+        ("rehearse --rate 2 --rate 2", 3),
+        ("rehearse --rate 2 --rate=2", 3),
+        ("rehearse --rate 2 --rates 2", 3),
+        (
+            "rehearse --rate 2 --unit 1s --duration 1s --pre 1 --max 1 --iteration 1s",
+            13,
+        ),
+        (
+            "rehearse --journal j --rate 2 --unit 1s --duration 1s --pre 1 --max 1 --entries 10",
+            15,
+        ),
+        (
+            "rehearse --journal j --rate=2 --unit 1s --pre 1 --max 1 --iteration=1s",
+            11,
+        ),
+        (
+            "rehearse --rate 2 --unit 1s --duration 1s --pre 1 --max 1 --iteration 1s --journal j x",
+            15,
+        ),
+        (
+            "rehearse --rate 2 --unit 1s --duration 1s --pre 1 --max 1 --iteration 1s --journal j --list",
+            15,
+        ),
+    ];
+    for (line, place) in table {
+        let words = split(rt.alloc(), line)?;
+        match read_words(rt.alloc(), &words) {
+            Err(WordsFault::Refused(at)) => assert_eq!(rt; at, place, "{line}"),
+            _ => panic!(rt; "{line}"),
+        }
+    }
+    Ok(())
+}
+
+/// Words of `rehearse` with the value of each option.
+#[test]
+fn rehearsals_are_read(rt: HostRuntime) -> Result<(), Fail> {
+    let table = [
+        (
+            "rehearse --rate 2 --unit 1s --duration 1m --pre 3 --max 4 --iteration 250ms --journal j.txt",
+            (
+                2,
+                1_000_000_000,
+                60_000_000_000,
+                3,
+                4,
+                250_000_000,
+                "j.txt",
+                None,
+            ),
+        ),
+        (
+            "rehearse --entries=10 --journal=a=b --iteration=1 --max=000000007 --pre 0 --duration=1ns --unit 1.5us --rate=999999999",
+            (999_999_999, 1_500, 1, 0, 7, 1_000_000, "a=b", Some(10)),
+        ),
+        (
+            "rehearse --max 1 --rate 0 --entries 1000000 --journal t --pre=1 --unit=30d --iteration 1h30m --duration .5s",
+            (
+                0,
+                2_592_000_000_000_000,
+                500_000_000,
+                1,
+                1,
+                5_400_000_000_000,
+                "t",
+                Some(1_000_000),
+            ),
+        ),
+    ];
+    for (line, want) in table {
+        let words = split(rt.alloc(), line)?;
+        let Words::RehearseWords {
+            rate,
+            unit,
+            duration,
+            pre,
+            max,
+            iteration,
+            journal,
+            entries,
+        } = read_words(rt.alloc(), &words)?
+        else {
+            panic!(rt; "{line}");
+        };
+        assert_eq!(rt; (rate, unit, duration), (want.0, want.1, want.2), "{line}");
+        assert_eq!(rt; (pre, max, iteration), (want.3, want.4, want.5), "{line}");
+        assert_eq!(rt; journal.as_slice(), want.6.as_bytes(), "{line}");
+        assert_eq!(rt; entries, want.7, "{line}");
+    }
+    Ok(())
+}
+
+/// The test that a rehearsal's options stand for, behind what was there.
+#[test]
+fn rate_tests_are_printed(rt: HostRuntime) -> Result<(), Fail> {
+    let want = concat!(
+        r#"{"options":{"scenarios":{"main":{"executor":"constant-arrival-rate","rate":2,"#,
+        r#""timeUnit":"1000000000ns","duration":"1000000000ns","preAllocatedVUs":1,"maxVUs":1}}},"#,
+        r#""scripts":{"default":[]}}"#
+    );
+    let mut text = Vec::new(rt.alloc());
+    rate_test_text(2, 1_000_000_000, 1_000_000_000, 1, 1, &mut text)?;
+    assert_eq!(rt; text.as_slice(), want.as_bytes());
+    assert_eq!(rt; text.len(), 188);
+    let want = concat!(
+        r#"{}{"options":{"scenarios":{"main":{"executor":"constant-arrival-rate","rate":30,"#,
+        r#""timeUnit":"4ns","duration":"50ns","preAllocatedVUs":6,"maxVUs":70}}},"#,
+        r#""scripts":{"default":[]}}"#
+    );
+    let mut text = Vec::from_slice(rt.alloc(), b"{}")?;
+    rate_test_text(30, 4, 50, 6, 70, &mut text)?;
+    assert_eq!(rt; text.as_slice(), want.as_bytes());
+    Ok(())
+}
+
 /// Weights as they stand among the words.
 #[test]
 fn weights_are_read(rt: HostRuntime) -> Result<(), Fail> {

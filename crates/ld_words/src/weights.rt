@@ -1,7 +1,8 @@
 // Weights among the words of a command line.
 ghost use Rattle.std.specs.Prelude.{◌≡◌, List, ℕ, Some, IfOk, MatchOption, map};
 ghost use Rattle.std.specs.Borrow.{Bor};
-ghost use Rattle.ld_words.specs.Words.{number_of, parts_of, AreWeights};
+ghost use Rattle.ld_words.specs.Number.{number_of};
+ghost use Rattle.ld_words.specs.Words.{parts_of, AreWeights};
 
 use crate::number::read_number;
 use std::alloc::{AllocError, Global};

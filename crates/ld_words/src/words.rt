@@ -1,12 +1,18 @@
 // The words of a command line.
-ghost use Rattle.std.specs.Prelude.{◌≡◌, ◌≢◌, ◌≤◌, ◌↔◌, true, false, ℕ, List, Some, IfOk, IfErr, IsTrue, MatchOption, MatchResult, codes, map, slice_get, string_bytes};
+ghost use Rattle.std.specs.Prelude.{◌≡◌, ◌≢◌, ◌≤◌, ℕ, List, Some, IfOk, IfErr, MatchOption, MatchResult, map, slice_get, string_bytes};
 ghost use Rattle.ld_words.specs.Form.{IsRefusal};
-ghost use Rattle.ld_words.specs.Words.{form_of, has_option_word, is_option_word, most_indices, number_of, AreWeights, Asks, AsksBySegment, AsksByWeights, IsRefused};
+ghost use Rattle.ld_words.specs.Number.{number_of};
+ghost use Rattle.ld_words.specs.Words.{form_of, most_indices, AreWeights, Asks, AsksBy, IsRefused};
 ghost use Rattle.ld_words.specs.declared.fault.WordsFault.{WordsFault};
+ghost use Rattle.ld_words.specs.declared.form.FormName.TheVariants as forms;
 
 use crate::fault::WordsFault;
+use crate::form::{FormName, form_read, is_command};
+use crate::given::text_under;
 use crate::number::number_at;
-use crate::options::read_options;
+use crate::option::OptionName;
+use crate::options::options_behind;
+use crate::rehearsal::read_rehearsal_words;
 use crate::weights::Weights;
 use ld_base::Text;
 use std::alloc::{AllocError, Global};
@@ -29,45 +35,44 @@ pub enum Words {
         segment: Option<Text>,
         sequence: Option<Text>,
     },
+    /// `rehearse --rate N --unit D --duration D --pre N --max N --iteration D --journal NAME [--entries N]`:
+    /// a test at a constant arrival rate, played with iterations that all take as long. `unit`, `duration`
+    /// and `iteration` are nanoseconds, at least 1; `entries` is 10 to 1,000,000.
+    RehearseWords {
+        rate: u32,
+        unit: u64,
+        duration: u64,
+        pre: u32,
+        max: u32,
+        iteration: u64,
+        journal: Text,
+        entries: Option<u32>,
+    },
 }
 
 /// Reads the words of a command line.
 ///
 /// Words that are no command are refused at the least place, counted from 0, whose word can't stand
-/// there behind the words before it; where the end comes too early, at the number of words. Whether
-/// some word begins with `--` tells the two forms of `stripe` apart.
+/// there behind the words before it; where the end comes too early, at the number of words. The first
+/// word tells the form, and for `stripe` also whether some word begins with `--`.
 pub fn read_words(alloc: Global, words: &[String]) -> Result<Words, WordsFault>
     ensures asked { IfOk result (Asks (map string_bytes words.now)) }
     ensures refused { IfErr result (λ f. f ≢ WordsFault.Memory → IsRefused (map string_bytes words.now) f) }
 {
-    if has_option_word(words) {
-        read_segment_words(alloc, words)
-    } else {
-        read_weights_words(alloc, words)
+    match form_read(words) {
+        FormName::StripeWeights => read_weights_words(alloc, words),
+        FormName::StripeSegment => read_segment_words(alloc, words),
+        FormName::RehearseWords => read_rehearsal_words(alloc, words),
     }
-}
-
-// Whether some word begins with two dashes.
-fn has_option_word(words: &[String]) -> bool
-    ensures { result ≡ has_option_word (map string_bytes words.now) }
-{
-    words.iter().any(|word| is_option_word(word.as_bytes()))
-}
-
-// Whether a word begins with two dashes.
-fn is_option_word(word: &[u8]) -> bool
-    ensures { result ≡ is_option_word word.now }
-{
-    word.starts_with(b"--")
 }
 
 // Reads `stripe WEIGHTS POSITION N`.
 fn read_weights_words(alloc: Global, words: &[String]) -> Result<Words, WordsFault>
     ensures { MatchResult result
-        (AsksByWeights (map string_bytes words.now))
-        (λ f. f ≢ WordsFault.Memory → IsRefusal (form_of false) (map string_bytes words.now) f) }
+        (AsksBy forms.StripeWeights (map string_bytes words.now))
+        (λ f. f ≢ WordsFault.Memory → IsRefusal (form_of forms.StripeWeights) (map string_bytes words.now) f) }
 {
-    if !is_stripe(words) {
+    if !is_command("stripe", words) {
         return Err(WordsFault::Refused(0));
     }
     let Some(weights) = weights_at(alloc, words, 1)? else {
@@ -92,42 +97,26 @@ fn read_weights_words(alloc: Global, words: &[String]) -> Result<Words, WordsFau
 // Reads `stripe N` and options.
 fn read_segment_words(alloc: Global, words: &[String]) -> Result<Words, WordsFault>
     ensures { MatchResult result
-        (AsksBySegment (map string_bytes words.now))
-        (λ f. f ≢ WordsFault.Memory → IsRefusal (form_of true) (map string_bytes words.now) f) }
+        (AsksBy forms.StripeSegment (map string_bytes words.now))
+        (λ f. f ≢ WordsFault.Memory → IsRefusal (form_of forms.StripeSegment) (map string_bytes words.now) f) }
 {
-    if !is_stripe(words) {
+    if !is_command("stripe", words) {
         return Err(WordsFault::Refused(0));
     }
     let Some(count) = count_at(words, 1) else {
         return Err(WordsFault::Refused(1));
     };
-    let (_, option_words) = words.split_at(2);
-    match read_options(alloc, option_words) {
-        Ok(options) => Ok(Words::StripeSegment {
-            count,
-            segment: options.segment,
-            sequence: options.sequence,
-        }),
-        Err(WordsFault::Refused(place)) => Err(WordsFault::Refused(place + 2)),
-        Err(WordsFault::Memory) => Err(WordsFault::Memory),
+    let given = options_behind(alloc, FormName::StripeSegment, words, 2)?;
+    let segment = text_under(alloc, &given, OptionName::Segment)?;
+    let sequence = text_under(alloc, &given, OptionName::Sequence)?;
+    if segment.is_none() && sequence.is_none() {
+        return Err(WordsFault::Refused(words.len()));
     }
-}
-
-// Whether the first word is the command.
-fn is_stripe(words: &[String]) -> bool
-    ensures { IsTrue result ↔ (slice_get (map string_bytes words.now) 0 ≡ Some (codes "stripe")) }
-{
-    match words.first() {
-        Some(word) => names_stripe(word.as_str()),
-        None => false,
-    }
-}
-
-// Whether a word is the name of the command.
-fn names_stripe(word: &str) -> bool
-    ensures { IsTrue result ↔ (word.now ≡ codes "stripe") }
-{
-    word == "stripe"
+    Ok(Words::StripeSegment {
+        count,
+        segment,
+        sequence,
+    })
 }
 
 // The weights that the word at a place is, if it is there and they are some.

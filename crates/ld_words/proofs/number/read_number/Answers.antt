@@ -1,5 +1,5 @@
 use Rattle.std.proofs.Common.{◌∙◌, ap, sym}
-use Rattle.ld_words.specs.Words.{is_number}
+use Rattle.ld_words.specs.Number.{is_number}
 use Rattle.ld_words.proofs.NumberLemmas.{parsed_number}
 use Rattle.ld_words.proofs.number.read_number.Goals as goal
 

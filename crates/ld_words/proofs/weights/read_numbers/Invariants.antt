@@ -1,6 +1,6 @@
 use Rattle.std.proofs.Common.{◌≡◌, ℕ, List, Bor, map, take}
 use Rattle.std.specs.Prelude.{Some}
-use Rattle.ld_words.specs.Words.{number_of}
+use Rattle.ld_words.specs.Number.{number_of}
 use Rattle.ld_words.proofs.weights.read_numbers.Given as goal
 
 abbrev pub invariant-loop-text : goal.invariant-loop-text

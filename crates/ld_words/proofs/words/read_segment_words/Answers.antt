@@ -1,28 +1,32 @@
-use Rattle.std.proofs.Common.{◌∙◌, ap, arith, subst, sym, true}
-use Rattle.std.specs.Prelude.{map, string_bytes}
-use Rattle.std.proofs.lemmas.List.{drop-map, length-map}
+use Rattle.std.proofs.Common.{◌∙◌, arith, refl, sym}
+use Rattle.std.specs.Prelude.{string_bytes}
+use Rattle.std.proofs.lemmas.List.{length-map}
 use Rattle.std.proofs.lemmas.Option.{slice_get_within}
-use Rattle.ld_words.specs.Form.{IsRefusedBy}
-use Rattle.ld_words.specs.OptionWords.{OfOptions}
-use Rattle.ld_words.proofs.FormLemmas.{refused_from}
-use Rattle.ld_words.proofs.WordsLemmas.{refused_name, refused_options, refused_segment_count}
+use Rattle.ld_words.specs.declared.option.OptionName.TheVariants.{Segment, Sequence}
+use Rattle.ld_words.proofs.OptionsLemmas.{none_from_is_some}
+use Rattle.ld_words.proofs.WordsLemmas.{handed_on, counted, is_named, none_under, refused_segment_count, refused_segment_end, refused_segment_options, refused_stripe_segment}
 use Rattle.ld_words.proofs.words.read_segment_words.Goals as goal
 
-pub returns-then-not-is_stripe : goal.returns-then-not-is_stripe
-returns-then-not-is_stripe c _ = refused_name true _ (λ name. let is = c.is_stripe.ensures.1 name in let clash = sym is ∙ c.if-not-is_stripe.true in cc)
+pub returns-then-not-is_command : goal.returns-then-not-is_command
+returns-then-not-is_command c _ = refused_stripe_segment _ (sym c.is_command.ensures ∙ c.if-not-is_command.true)
 
 pub returns-in_default : goal.returns-in_default
-returns-in_default c _ = refused_segment_count _ (c.is_stripe.ensures.0 c.if-not-is_stripe.false) c.in_default.ensures
+returns-in_default c _ = refused_segment_count _ (is_named _ _ (sym c.is_command.ensures ∙ c.if-not-is_command.false)) c.in_default.ensures
 
-pub split_at-requires : goal.split_at-requires
-split_at-requires c =
+pub options_behind-requires : goal.options_behind-requires
+options_behind-requires c =
     let inside = slice_get_within _ 1 _ c.in-Some.ensures.1 in
     let long = length-map c.args.words.now string_bytes in
     omega arith
 
-pub returns-in-Err-Refused : goal.returns-in-Err-Refused
-returns-in-Err-Refused c _ =
-    refused_options _ _ _ (c.is_stripe.ensures.0 c.if-not-is_stripe.false) c.in-Some.ensures
-    (subst (λ ws. IsRefusedBy OfOptions ws c.in-Err-Refused.place)
-    (ap (map string_bytes) c.split_at.ensures.back ∙ sym (drop-map string_bytes 2 c.args.words.now))
-    (refused_from OfOptions _ _ _ c.in-Err-Refused.field-0-is c.in-Err-Refused.ensures))
+pub returns-then-is_none-2 : goal.returns-then-is_none-2
+returns-then-is_none-2 c _ =
+    refused_segment_end _ _ _ _ _ (length-map c.args.words.now string_bytes)
+    (counted _ _ (is_named _ _ (sym c.is_command.ensures ∙ c.if-not-is_command.false)) c.in-Some.ensures) c.in_ok-given.ensures
+    (none_under Segment _ c.in_ok-given.given.items _ c.deref.ensures.value c.in_ok-segment.ensures (none_from_is_some _ c.if-is_none.ensures))
+    (none_under Sequence _ c.in_ok-given.given.items _ c.deref-2.ensures.value c.in_ok-sequence.ensures (none_from_is_some _ c.if-is_none-2.ensures))
+
+pub returns-in_err-given : goal.returns-in_err-given
+returns-in_err-given c =
+    handed_on _ _ _ _ c.from_residual.ensures
+    (λ memory. refused_segment_options _ _ _ _ (counted _ _ (is_named _ _ (sym c.is_command.ensures ∙ c.if-not-is_command.false)) c.in-Some.ensures) refl (c.in_err-given.ensures memory))

@@ -4,7 +4,7 @@ use Rattle.std.proofs.lemmas.Iterator.{YieldsList-from_slice}
 use Rattle.std.proofs.lemmas.Iterator.Search.{any_from_yields_List}
 use Rattle.ld_words.specs.Words.{is_option_word}
 use Rattle.ld_words.proofs.WordsLemmas.{list_any-map}
-use Rattle.ld_words.proofs.words.has_option_word.Goals as goal
+use Rattle.ld_words.proofs.form.has_option_word.Goals as goal
 
 pub returns : goal.returns
 returns c =
