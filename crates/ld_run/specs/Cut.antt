@@ -11,7 +11,7 @@ use Rattle.ld_segment.specs.declared.fault.SegmentFault.{SegmentFault}
 use Rattle.ld_stripe.specs.Striping.{Striping, IsStripingOf}
 use Rattle.ld_run.specs.Indices.{numbers_line, owned_below}
 use Rattle.ld_run.specs.declared.refusal.Refusal.{Refusal}
-use Rattle.ld_run.specs.declared.refusal.Refusal.TheVariants.{Words, Stripe, NoSuchPosition, Segment, NotInSequence, Memory}
+use Rattle.ld_run.specs.declared.refusal.Refusal.TheVariants.{Words, Stripe, NoSuchPosition, Segment, NotInSequence, Plan, Memory}
 
 -- a missing segment is the whole test
 abbrev pub segment_word : Option (List ℕ) → List ℕ
@@ -75,6 +75,7 @@ IsPartRefusal from to points (Segment f) =
 IsPartRefusal from to points (Words place) = ⊥
 IsPartRefusal from to points (Stripe f) = ⊥
 IsPartRefusal from to points (NoSuchPosition p) = ⊥
+IsPartRefusal from to points (Plan f) = ⊥
 IsPartRefusal from to points Memory = ⊥
 
 -- the text of what the words cut
@@ -99,4 +100,5 @@ IsCutRefusal segment sequence NotInSequence = RefusesPart segment sequence NotIn
 IsCutRefusal segment sequence (Words place) = ⊥
 IsCutRefusal segment sequence (Stripe f) = ⊥
 IsCutRefusal segment sequence (NoSuchPosition p) = ⊥
+IsCutRefusal segment sequence (Plan f) = ⊥
 IsCutRefusal segment sequence Memory = ⊥

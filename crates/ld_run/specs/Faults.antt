@@ -1,4 +1,6 @@
 -- Faults of the crates below as refusals of the words. Want of memory stands alone.
+use Rattle.ld_plan.specs.declared.fault.PlanFault.{PlanFault}
+use Rattle.ld_plan.specs.declared.fault.PlanFault.TheVariants as plans
 use Rattle.ld_segment.specs.declared.fault.SegmentFault.{SegmentFault}
 use Rattle.ld_segment.specs.declared.fault.SegmentFault.TheVariants as cuts
 use Rattle.ld_stripe.specs.declared.fault.StripeFault.{StripeFault}
@@ -6,7 +8,14 @@ use Rattle.ld_stripe.specs.declared.fault.StripeFault.TheVariants as stripes
 use Rattle.ld_words.specs.declared.fault.WordsFault.{WordsFault}
 use Rattle.ld_words.specs.declared.fault.WordsFault.TheVariants as words
 use Rattle.ld_run.specs.declared.refusal.Refusal.{Refusal}
-use Rattle.ld_run.specs.declared.refusal.Refusal.TheVariants.{Words, Stripe, Segment, Memory}
+use Rattle.ld_run.specs.declared.refusal.Refusal.TheVariants.{Words, Stripe, Segment, Plan, Memory}
+
+abbrev pub of_plan : PlanFault → Refusal
+of_plan (plans.Range field) = Plan (plans.Range field)
+of_plan (plans.MaxBelowPre field) = Plan (plans.MaxBelowPre field)
+of_plan (plans.TooManyArrivals scenario count) = Plan (plans.TooManyArrivals scenario count)
+of_plan (plans.JournalTooSmall needed limit) = Plan (plans.JournalTooSmall needed limit)
+of_plan plans.Memory = Memory
 
 abbrev pub of_words : WordsFault → Refusal
 of_words (words.Refused place) = Words place

@@ -1,7 +1,11 @@
+pub mod Answer
+pub mod Delivery
+pub mod Request
 pub mod Cut
 pub mod DeskRun
 pub mod Faults
 pub mod Indices
 pub mod Refusal
+pub mod Rehearsal
 pub mod Saying
 pub mod Stripe

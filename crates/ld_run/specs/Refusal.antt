@@ -1,7 +1,12 @@
 -- What the words ask for, what is refused of it, and the line and the status that say so.
-use Rattle.std.specs.Prelude.{◌∷◌, ◌++◌, [], ℕ, List, codes, decimal}
+use Rattle.std.specs.Prelude.{◌≡◌, ◌∷◌, ◌++◌, [], ℕ, List, codes, decimal}
 use Rattle.ld_num.specs.declared.fault.NumFault.{NumFault}
 use Rattle.ld_num.specs.declared.fault.NumFault.TheVariants as numbers
+use Rattle.ld_plan.specs.Field.{path_of}
+use Rattle.ld_plan.specs.declared.fault.PlanFault.{PlanFault}
+use Rattle.ld_plan.specs.declared.fault.PlanFault.TheVariants as plans
+use Rattle.ld_plan.specs.declared.field.Field.{Field}
+use Rattle.ld_plan.specs.declared.rate_test.RateTest.{RateTest}
 use Rattle.ld_segment.specs.declared.fault.SegmentFault.{SegmentFault}
 use Rattle.ld_segment.specs.declared.fault.SegmentFault.TheVariants as cuts
 use Rattle.ld_stripe.specs.declared.fault.StripeFault.{StripeFault}
@@ -9,25 +14,40 @@ use Rattle.ld_stripe.specs.declared.fault.StripeFault.TheVariants as stripes
 use Rattle.ld_words.specs.Words as words
 use Rattle.ld_words.specs.declared.fault.WordsFault.TheVariants.{Refused}
 use Rattle.ld_words.specs.declared.words.Words as requests
-use Rattle.ld_words.specs.declared.words.Words.TheVariants.{StripeWeights, StripeSegment}
+use Rattle.ld_words.specs.declared.words.Words.TheVariants.{StripeWeights, StripeSegment, RehearseWords}
+use Rattle.ld_run.specs.Answer.{text_alone}
 use Rattle.ld_run.specs.Cut.{IsCutRefusal, IsCutText}
+use Rattle.ld_run.specs.Rehearsal.{entry_limit, IsRehearsalAnswer, IsRehearsalRefusal}
 use Rattle.ld_run.specs.Stripe.{IsWeightsRefusal, IsWeightsText}
+use Rattle.ld_run.specs.declared.answer.Answer.{Answer}
 use Rattle.ld_run.specs.declared.refusal.Refusal.{Refusal}
-use Rattle.ld_run.specs.declared.refusal.Refusal.TheVariants.{Words, Stripe, NoSuchPosition, Segment, NotInSequence, Memory}
+use Rattle.ld_run.specs.declared.refusal.Refusal.TheVariants.{Words, Stripe, NoSuchPosition, Segment, NotInSequence, Plan, Memory}
 
--- the text that a request has
-abbrev pub IsTextOf : requests.Words → List ℕ → Type 0
-IsTextOf (StripeWeights weights position count) text = IsWeightsText weights position count text
-IsTextOf (StripeSegment count segment sequence) text = IsCutText count segment sequence text
+-- the test of these numbers
+abbrev pub test_of : ℕ → ℕ → ℕ → ℕ → ℕ → RateTest
+test_of r u d p m = record { rate = r; unit = u; duration = d; pre = p; max = m }
+
+-- the answer is a text alone, of which this holds
+abbrev pub IsTextAlone : (List ℕ → Type 0) → Answer → Type 0
+IsTextAlone P answer = (text : List ℕ) × P text × (answer ≡ text_alone text)
+
+-- the answer that a request has
+abbrev pub IsAnswerOf : requests.Words → Answer → Type 0
+IsAnswerOf (StripeWeights weights position count) answer = IsTextAlone (IsWeightsText weights position count) answer
+IsAnswerOf (StripeSegment count segment sequence) answer = IsTextAlone (IsCutText count segment sequence) answer
+IsAnswerOf (RehearseWords rate unit duration pre max iteration journal entries) answer =
+    IsRehearsalAnswer (test_of rate unit duration pre max) (entry_limit entries) iteration journal answer
 
 -- a request is refused so
 abbrev pub IsRefusalOf : requests.Words → Refusal → Type 0
 IsRefusalOf (StripeWeights weights position count) r = IsWeightsRefusal weights position r
 IsRefusalOf (StripeSegment count segment sequence) r = IsCutRefusal segment sequence r
+IsRefusalOf (RehearseWords rate unit duration pre max iteration journal entries) r =
+    IsRehearsalRefusal (test_of rate unit duration pre max) (entry_limit entries) r
 
--- the text that the words ask for
-abbrev pub HasText : List (List ℕ) → List ℕ → Type 0
-HasText ws text = (request : requests.Words) × words.Asks ws request × IsTextOf request text
+-- the answer to the words
+abbrev pub HasAnswer : List (List ℕ) → Answer → Type 0
+HasAnswer ws answer = (request : requests.Words) × words.Asks ws request × IsAnswerOf request answer
 
 -- what the words ask for is refused so
 abbrev pub NamesRefused : List (List ℕ) → Refusal → Type 0
@@ -41,6 +61,7 @@ IsRefused ws (Stripe f) = NamesRefused ws (Stripe f)
 IsRefused ws (NoSuchPosition p) = NamesRefused ws (NoSuchPosition p)
 IsRefused ws (Segment f) = NamesRefused ws (Segment f)
 IsRefused ws NotInSequence = NamesRefused ws NotInSequence
+IsRefused ws (Plan f) = NamesRefused ws (Plan f)
 IsRefused ws Memory = ⊥
 
 -- ---- how a refusal is said
@@ -64,12 +85,20 @@ segment_status cuts.FewPoints = 5
 segment_status (cuts.PeriodTooLarge period) = 5
 segment_status cuts.TooMany = 5
 
+abbrev pub plan_status : PlanFault → ℕ
+plan_status plans.Memory = 9
+plan_status (plans.Range field) = 5
+plan_status (plans.MaxBelowPre field) = 5
+plan_status (plans.TooManyArrivals scenario count) = 5
+plan_status (plans.JournalTooSmall needed limit) = 5
+
 abbrev pub status_of : Refusal → ℕ
 status_of (Words place) = 2
 status_of (Stripe f) = stripe_status f
 status_of (NoSuchPosition position) = 5
 status_of (Segment f) = segment_status f
 status_of NotInSequence = 5
+status_of (Plan f) = plan_status f
 status_of Memory = 9
 
 -- a line of a text and a number behind it
@@ -110,6 +139,22 @@ segment_line (cuts.PeriodTooLarge period) = line_with (codes "error 16 PeriodToo
 segment_line cuts.TooMany = codes "error 17 TooMany\n"
 segment_line cuts.Memory = memory_line
 
+-- a line of a text and a path behind it
+abbrev pub line_at : List ℕ → Field → List ℕ
+line_at text field = text ++ path_of field ++ 10 ∷ []
+
+-- a line of a text and two numbers behind it
+abbrev pub line_with_two : List ℕ → ℕ → ℕ → List ℕ
+line_with_two text one two = text ++ decimal one ++ 32 ∷ decimal two ++ 10 ∷ []
+
+-- the line that says a fault of a test
+abbrev pub plan_line : PlanFault → List ℕ
+plan_line (plans.Range field) = line_at (codes "error 62 Range ") field
+plan_line (plans.MaxBelowPre field) = line_at (codes "error 64 MaxBelowPre ") field
+plan_line (plans.TooManyArrivals scenario count) = line_with_two (codes "error 31 TooManyArrivals ") scenario count
+plan_line (plans.JournalTooSmall needed limit) = line_with_two (codes "error 81 JournalTooSmall ") needed limit
+plan_line plans.Memory = memory_line
+
 -- the line that says a refusal
 abbrev pub line_of : Refusal → List ℕ
 line_of (Words place) = line_with (codes "error words ") place
@@ -117,4 +162,5 @@ line_of (Stripe f) = stripe_line f
 line_of (NoSuchPosition position) = line_with (codes "error 22 NoSuchPosition ") position
 line_of (Segment f) = segment_line f
 line_of NotInSequence = codes "error 15 NotInSequence\n"
+line_of (Plan f) = plan_line f
 line_of Memory = memory_line

@@ -27,12 +27,3 @@ pub record IsRefusalSaid (refusal : Refusal) (status : ℕ) (err err' : SinkView
   pub said : ((status ≡ status_of refusal) × Says err (line_of refusal) err')
       ⊎ ((status ≡ 9) × (TookFront err (line_of refusal) err' ⊎ TookFront err memory_line err'))
   pub count : err.faults ≤ err'.faults
-
--- A text was put on `out`: whole, or up to a fault of `out` or want of memory, which a line on `err`
--- says.
-pub record IsTextPut (text : List ℕ) (status : ℕ) (out out' err err' : SinkView) : Type 0 where
-  pub put : ((status ≡ 0) × Took out text out' × (out'.faults ≡ out.faults) × Untouched err err')
-      ⊎ (((status ≡ 4) × TookFront out text out' × Rose out.faults out'.faults × Says err write_line err')
-      ⊎ ((status ≡ 9) × TookFront out text out' × (TookFront err write_line err' ⊎ TookFront err memory_line err')))
-  pub out_count : out.faults ≤ out'.faults
-  pub err_count : err.faults ≤ err'.faults

@@ -1,7 +1,11 @@
-use crate::text::{line_with, segment_line, stripe_line};
+use crate::text::{line_with, plan_line, segment_line, stripe_line};
 use ld_base::BaseFault;
+use ld_journal::JournalFault;
+use ld_plan::PlanFault;
+use ld_rehearsal::RehearsalFault;
 use ld_segment::SegmentFault;
 use ld_stripe::StripeFault;
+use ld_summary::SummaryFault;
 use ld_words::WordsFault;
 use std::alloc::{AllocError, Global};
 use thiserror::Error;
@@ -24,6 +28,9 @@ pub enum Refusal {
     /// The sequence has no segment that is equal to this one.
     #[error("the segment isn't in the sequence")]
     NotInSequence,
+    /// The test has no plan.
+    #[error(transparent)]
+    Plan(PlanFault),
     /// There is no memory left.
     #[error("out of memory")]
     Memory,
@@ -41,11 +48,13 @@ impl Refusal {
             Refusal::Words(_) => 2,
             Refusal::Stripe(StripeFault::Memory)
             | Refusal::Segment(SegmentFault::Memory)
+            | Refusal::Plan(PlanFault::Memory)
             | Refusal::Memory => 9,
             Refusal::Stripe(_)
             | Refusal::NoSuchPosition(_)
             | Refusal::Segment(_)
-            | Refusal::NotInSequence => 5,
+            | Refusal::NotInSequence
+            | Refusal::Plan(_) => 5,
         }
     }
 
@@ -61,6 +70,7 @@ impl Refusal {
             }
             Refusal::Segment(fault) => segment_line(alloc, fault),
             Refusal::NotInSequence => Ok(Vec::from_slice(alloc, b"error 15 NotInSequence\n")?),
+            Refusal::Plan(fault) => plan_line(alloc, fault),
             Refusal::Memory => Ok(Vec::from_slice(alloc, b"error memory\n")?),
         }
     }
@@ -126,6 +136,53 @@ impl From<SegmentFault> for Refusal {
         match fault {
             SegmentFault::Memory => Refusal::Memory,
             fault => Refusal::Segment(fault),
+        }
+    }
+}
+
+impl From<RehearsalFault> for Refusal {
+    ghost use Rattle.std.specs.Prelude.{◌≡◌};
+    ghost use Rattle.ld_run.specs.declared.refusal.Refusal.TheVariants.{Memory};
+
+    ghost from_gives = { λ _ refusal. refusal ≡ Memory };
+
+    fn from(_fault: RehearsalFault) -> Refusal {
+        Refusal::Memory
+    }
+}
+
+impl From<JournalFault> for Refusal {
+    ghost use Rattle.std.specs.Prelude.{◌≡◌};
+    ghost use Rattle.ld_run.specs.declared.refusal.Refusal.TheVariants.{Memory};
+
+    ghost from_gives = { λ _ refusal. refusal ≡ Memory };
+
+    fn from(_fault: JournalFault) -> Refusal {
+        Refusal::Memory
+    }
+}
+
+impl From<SummaryFault> for Refusal {
+    ghost use Rattle.std.specs.Prelude.{◌≡◌};
+    ghost use Rattle.ld_run.specs.declared.refusal.Refusal.TheVariants.{Memory};
+
+    ghost from_gives = { λ _ refusal. refusal ≡ Memory };
+
+    fn from(_fault: SummaryFault) -> Refusal {
+        Refusal::Memory
+    }
+}
+
+impl From<PlanFault> for Refusal {
+    ghost use Rattle.ld_run.specs.Faults.{of_plan};
+    ghost use Rattle.std.specs.Prelude.{◌≡◌};
+
+    ghost from_gives = { λ fault refusal. refusal ≡ of_plan fault };
+
+    fn from(fault: PlanFault) -> Refusal {
+        match fault {
+            PlanFault::Memory => Refusal::Memory,
+            fault => Refusal::Plan(fault),
         }
     }
 }

@@ -1,5 +1,5 @@
 use super::*;
-use ld_outside::{MemSink, Numbers, SureSink};
+use ld_outside::{Files, MemSink, Numbers, SureShelf, SureSink};
 use std::alloc::{AllocError, Global};
 use std::process::Abort;
 use std::test::Fail;
@@ -23,7 +23,8 @@ fn check<R: AllocGlobal + Abort>(
     let words = split(rt.alloc(), line)?;
     let mut out = SureSink::new(rt.alloc());
     let mut err = SureSink::new(rt.alloc());
-    assert_eq!(rt; command(rt, &words, &mut out, &mut err), status, "{line}");
+    let mut shelf = no_files(rt.alloc());
+    assert_eq!(rt; command(rt, &words, &mut shelf, &mut out, &mut err), status, "{line}");
     assert!(rt; out.taken() == text.as_bytes(), "{line}");
     assert!(rt; err.taken() == said.as_bytes(), "{line}");
     Ok(())
@@ -173,7 +174,8 @@ fn check_weights<R: AllocGlobal + Abort>(
     words.push(String::from_str(rt.alloc(), "1")?)?;
     let mut out = SureSink::new(rt.alloc());
     let mut err = SureSink::new(rt.alloc());
-    assert_eq!(rt; command(rt, &words, &mut out, &mut err), status);
+    let mut shelf = no_files(rt.alloc());
+    assert_eq!(rt; command(rt, &words, &mut shelf, &mut out, &mut err), status);
     let taken = if status == 0 {
         out.taken()
     } else {
@@ -193,11 +195,17 @@ fn sinks_that_fail(rt: HostRuntime) -> Result<(), Fail> {
         if status == 2 {
             err = MemSink::new(rt.alloc(), first_call(rt.alloc())?);
         }
-        assert_eq!(rt; command(&rt, &words, &mut out, &mut err), status);
+        let mut shelf = no_files(rt.alloc());
+        assert_eq!(rt; command(&rt, &words, &mut shelf, &mut out, &mut err), status);
         assert!(rt; out.taken().is_empty());
         assert_eq!(rt; err.taken(), said.as_bytes());
     }
     Ok(())
+}
+
+// A shelf without files.
+fn no_files(alloc: Global) -> SureShelf {
+    SureShelf::new(alloc, Files::of(Vec::new(alloc)))
 }
 
 fn first_call(alloc: Global) -> Result<Numbers, AllocError> {

@@ -1,9 +1,12 @@
 // Lines of text.
 ghost use Rattle.std.specs.Prelude.{◌≡◌, IfOk};
-ghost use Rattle.ld_run.specs.Refusal.{line_with, number_name, segment_line, stripe_line};
+ghost use Rattle.ld_run.specs.Answer.{full_line, room_word};
+ghost use Rattle.ld_run.specs.Refusal.{line_at, line_with, line_with_two, number_name, plan_line, segment_line, stripe_line};
 
-use ld_base::{BaseFault, put_number};
+use ld_base::{BaseFault, Room, put_number};
 use ld_num::NumFault;
+use ld_plan::{Field, PlanFault};
+use ld_rehearsal::FullJournal;
 use ld_segment::SegmentFault;
 use ld_stripe::StripeFault;
 use std::alloc::Global;
@@ -16,6 +19,69 @@ pub fn line_with(alloc: Global, text: &[u8], number: u64) -> Result<Vec<u8>, Bas
     put_number(&mut line, number)?;
     line.extend_from_slice(b"\n")?;
     Ok(line)
+}
+
+// A line of a text and two numbers behind it.
+fn line_with_two(alloc: Global, text: &[u8], one: u64, two: u64) -> Result<Vec<u8>, BaseFault>
+    ensures { IfOk result (λ line. line.items ≡ line_with_two text.now one two) }
+{
+    let mut line = Vec::from_slice(alloc, text)?;
+    put_number(&mut line, one)?;
+    line.extend_from_slice(b" ")?;
+    put_number(&mut line, two)?;
+    line.extend_from_slice(b"\n")?;
+    Ok(line)
+}
+
+// A line of a text and the path of a field behind it.
+fn line_at(alloc: Global, text: &[u8], field: Field) -> Result<Vec<u8>, BaseFault>
+    ensures { IfOk result (λ line. line.items ≡ line_at text.now field) }
+{
+    let mut line = Vec::from_slice(alloc, text)?;
+    line.extend_from_slice(field.path().as_bytes())?;
+    line.extend_from_slice(b"\n")?;
+    Ok(line)
+}
+
+// The line that says that a journal had no room.
+pub fn full_line(alloc: Global, full: FullJournal) -> Result<Vec<u8>, BaseFault>
+    ensures { IfOk result (λ line. line.items ≡ full_line full) }
+{
+    let mut line = Vec::from_slice(alloc, b"error full ")?;
+    line.extend_from_slice(room_word(full.room))?;
+    line.extend_from_slice(b" ")?;
+    put_number(&mut line, full.needed)?;
+    line.extend_from_slice(b" ")?;
+    put_number(&mut line, full.limit)?;
+    line.extend_from_slice(b"\n")?;
+    Ok(line)
+}
+
+// The word for a limit of a journal.
+fn room_word(room: Room) -> &'static [u8]
+    ensures { result.now ≡ room_word room }
+{
+    match room {
+        Room::Entries => b"entries",
+        Room::Samples => b"samples",
+    }
+}
+
+// The line that says a fault of a test.
+pub fn plan_line(alloc: Global, fault: &PlanFault) -> Result<Vec<u8>, BaseFault>
+    ensures { IfOk result (λ line. line.items ≡ plan_line fault.now) }
+{
+    match fault {
+        PlanFault::Range(field) => line_at(alloc, b"error 62 Range ", *field),
+        PlanFault::MaxBelowPre(field) => line_at(alloc, b"error 64 MaxBelowPre ", *field),
+        PlanFault::TooManyArrivals { scenario, count } => {
+            line_with_two(alloc, b"error 31 TooManyArrivals ", *scenario as u64, *count)
+        }
+        PlanFault::JournalTooSmall { needed, limit } => {
+            line_with_two(alloc, b"error 81 JournalTooSmall ", *needed, *limit as u64)
+        }
+        PlanFault::Memory => Ok(Vec::from_slice(alloc, b"error memory\n")?),
+    }
 }
 
 // The line that says a fault of weights.

@@ -1,0 +1,98 @@
+// The answer of `rehearse`.
+ghost use Rattle.std.specs.Prelude.{◌≡◌, ◌≢◌, ◌≤◌, IfOk, MatchResult};
+ghost use Rattle.ld_journal.specs.Journal.{journal_text};
+ghost use Rattle.ld_journal.specs.Writable.{IsWritable};
+ghost use Rattle.ld_run.specs.Rehearsal.{entry_limit, header_of, IsRehearsalAnswer, IsRehearsalRefusal};
+ghost use Rattle.ld_run.specs.declared.refusal.Refusal.{Refusal};
+
+use crate::answer::{Answer, NamedFile};
+use crate::refusal::Refusal;
+use ld_base::{Bytes, History, Text};
+use ld_journal::{Header, write};
+use ld_plan::{Plan, RateTest};
+use ld_rehearsal::{Rehearsed, rehearse};
+use ld_summary::summary_text;
+use ld_words::rate_test_text;
+use std::alloc::Global;
+
+/// How many entries a journal may have, where the words don't say it.
+const MOST_ENTRIES: u32 = 1_000_000;
+
+// The answer of a rehearsal of a test, with at most so many entries and with iterations of this length, in
+// nanoseconds. The journal has this name.
+pub fn rehearsal_answer(
+    alloc: Global,
+    test: &RateTest,
+    entries: Option<u32>,
+    iteration: u64,
+    journal: &Text,
+) -> Result<Answer, Refusal>
+    requires lasts { 1 ≤ iteration }
+    requires least { 10 ≤ entry_limit entries }
+    requires most { entry_limit entries ≤ 1000000 }
+    ensures { MatchResult result
+        (IsRehearsalAnswer test.now (entry_limit entries) iteration journal.now)
+        (λ refusal. refusal ≢ Refusal.Memory → IsRehearsalRefusal test.now (entry_limit entries) refusal) }
+{
+    let limit = entries.unwrap_or(MOST_ENTRIES);
+    let plan = Plan::of_rate_test(alloc, test, limit)?;
+    let Rehearsed {
+        plan,
+        history,
+        full,
+    } = rehearse(alloc, plan, iteration)?;
+    let plans = [plan];
+    let histories = [history];
+    let mut summary = Vec::new(alloc);
+    summary_text(&plans, &histories, &mut summary)?;
+    let [history] = histories;
+    let bytes = journal_bytes(alloc, test, limit, history)?;
+    let name = Text::of(Vec::from_slice(alloc, journal.as_slice())?);
+    Ok(Answer {
+        file: Some(NamedFile { name, bytes }),
+        text: Text::of(summary),
+        full,
+    })
+}
+
+// The journal of a history of a test that is played whole.
+fn journal_bytes(
+    alloc: Global,
+    test: &RateTest,
+    limit: u32,
+    history: History,
+) -> Result<Bytes, Refusal>
+    requires { IsWritable (header_of test.now limit) history.entries }
+    ensures { MatchResult result
+        (λ bytes. bytes ≡ journal_text (header_of test.now limit) history.entries)
+        (λ refusal. refusal ≡ Refusal.Memory) }
+{
+    let header = whole_header(alloc, test, limit)?;
+    let entries = history.into_entries();
+    let mut bytes = Vec::new(alloc);
+    write(&header, &entries, &mut bytes)?;
+    Ok(Bytes::of(bytes))
+}
+
+// The header of the journal of a test that is played whole.
+fn whole_header(alloc: Global, test: &RateTest, limit: u32) -> Result<Header, Refusal>
+    ensures { MatchResult result
+        (λ header. header ≡ header_of test.now limit)
+        (λ refusal. refusal ≡ Refusal.Memory) }
+{
+    let mut text = Vec::new(alloc);
+    rate_test_text(
+        test.rate,
+        test.unit,
+        test.duration,
+        test.pre,
+        test.max,
+        &mut text,
+    )?;
+    Ok(Header {
+        test: Bytes::of(text),
+        segment: Text::of(Vec::from_slice(alloc, b"0:1")?),
+        sequence: Text::of(Vec::from_slice(alloc, b"0,1")?),
+        entries: limit,
+    })
+}
