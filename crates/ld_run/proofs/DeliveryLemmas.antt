@@ -1,0 +1,2 @@
+-- How an answer is written, put together from its steps.
+use Rattle.std.proofs.Common.{◌≡◌}
