@@ -33,7 +33,7 @@ use Rattle.ld_run.specs.declared.answer.Answer.{Answer}
 use Rattle.ld_run.specs.declared.refusal.Refusal.{Refusal}
 use Rattle.ld_run.specs.declared.refusal.Refusal.TheVariants.{Words, Stripe, NoSuchPosition, Segment, NotInSequence, Plan, Memory}
 use Rattle.ld_run.proofs.CutLemmas.{cut_text_not_refused, memory_not_refused, one_cut_text}
-use Rattle.ld_run.proofs.SayingLemmas.{said_front}
+use Rattle.ld_run.proofs.SayingLemmas.{said_front, untouched}
 use Rattle.ld_run.proofs.StripeLemmas.{one_weights_text, weights_text_not_refused}
 
 -- ---- requests
@@ -168,19 +168,28 @@ one_answer ws a b ha hb none =
 
 -- ---- runs
 
--- a sink that no call was made of
-untouched : (out : SinkView) → Untouched out out
-untouched out = (same out.told, refl)
-  where
-    same : (told : Option (List ℕ)) → IfSome told (λ now. IsSomeAnd told (λ before. now ≡ before ++ []))
-    same None = tt
-    same (Some bytes) = sym (append-nil bytes)
-
 -- the answer was written
 pub answer_run : (words : List (List ℕ)) (answer : Answer) (status : ℕ) (shelf shelf' : ShelfView) (out out' err err' : SinkView) →
     HasAnswer words answer → IsDelivered answer status shelf shelf' out out' err err' → IsDeskRun words status shelf shelf' out out' err err'
 answer_run words answer status shelf shelf' out out' err err' has put = run put.put
   where
+    broken : status ≡ 4 → Says err write_line err' →
+        (FileBroken answer shelf shelf' out out' × Rose shelf.write_faults shelf'.write_faults) ⊎ (TextBroken answer shelf shelf' out out' × Rose out.faults out'.faults) →
+        IsDeskRun words status shelf shelf' out out' err err'
+    broken is said how = record {
+      known = inr (inr (inl is));
+      well = λ e. absurd (omega arith);
+      full = λ e. absurd (omega arith);
+      refused_only = λ e. elim e [ inl two ↦ absurd (omega arith) | inr five ↦ absurd (omega arith) ];
+      refused_exactly = λ r refused. absurd (answer_not_refused words answer r has refused);
+      write_only = λ e. (answer, has, said, how);
+      memory_out = λ e. absurd (omega arith);
+      memory_err = λ e. absurd (omega arith);
+      shelf_count = put.shelf_count;
+      reads = put.reads;
+      out_count = put.out_count;
+      err_count = put.err_count;
+    }
     run : ((status ≡ 0) × (answer.full ≡ None) × AllWritten answer shelf shelf' out out' × Untouched err err')
         ⊎ (((full : FullJournal) × (answer.full ≡ Some full) × (status ≡ 7) × AllWritten answer shelf shelf' out out' × Says err (full_line full) err')
         ⊎ (((status ≡ 4) × FileBroken answer shelf shelf' out out' × Rose shelf.write_faults shelf'.write_faults × Says err write_line err')
@@ -238,23 +247,6 @@ answer_run words answer status shelf shelf' out out' err err' has put = run put.
           out_count = put.out_count;
           err_count = put.err_count;
         }
-    broken : status ≡ 4 → Says err write_line err' →
-        (FileBroken answer shelf shelf' out out' × Rose shelf.write_faults shelf'.write_faults) ⊎ (TextBroken answer shelf shelf' out out' × Rose out.faults out'.faults) →
-        IsDeskRun words status shelf shelf' out out' err err'
-    broken is said how = record {
-      known = inr (inr (inl is));
-      well = λ e. absurd (omega arith);
-      full = λ e. absurd (omega arith);
-      refused_only = λ e. elim e [ inl two ↦ absurd (omega arith) | inr five ↦ absurd (omega arith) ];
-      refused_exactly = λ r refused. absurd (answer_not_refused words answer r has refused);
-      write_only = λ e. (answer, has, said, how);
-      memory_out = λ e. absurd (omega arith);
-      memory_err = λ e. absurd (omega arith);
-      shelf_count = put.shelf_count;
-      reads = put.reads;
-      out_count = put.out_count;
-      err_count = put.err_count;
-    }
 
 -- where memory lacks, there is nothing to refuse; else the words are refused
 told_or_memory : (words : List (List ℕ)) (refusal : Refusal) → (refusal ≢ Memory → IsRefused words refusal) →

@@ -1,21 +1,23 @@
 -- The journal and the summary of a rehearsal: that they may be written.
 use Rattle.std.proofs.Common.{◌≡◌, ◌≤◌, ◌<◌, ◌+◌, ◌*◌, ◌^◌, ◌==◌, ◌&&◌, ℕ, Bool, true, false, List, [], ◌∷◌, ◌++◌, Option, None, Some, All, IsTrue, inr, arith, ap, codes, decimal, length, map, refl, rules, subst, sym, ◌∙◌}
+use Rattle.std.specs.Prelude.{option_map}
 use Rattle.std.specs.List.{flat_map, list_all}
 use Rattle.std.proofs.lemmas.Fmt.{length-decimal-le}
 use Rattle.std.proofs.lemmas.Grind.{common_steps}
 use Rattle.std.proofs.lemmas.List.{length-append}
 use Rattle.std.proofs.lemmas.List.Elements.{All-cons, All-nil}
-use Rattle.ld_arrival.specs.Limits.{greatest_duration, greatest_rate, greatest_unit}
 use Rattle.ld_base.specs.History.{HistoryView}
 use Rattle.ld_base.specs.declared.act.Act.{Act}
 use Rattle.ld_base.specs.declared.act.Act.TheVariants.{Take, Grow, Start, Drop, Late, Return, Release, Stop, Close, Control}
 use Rattle.ld_base.specs.declared.entry.Entry.{Entry}
 use Rattle.ld_base.specs.declared.sample.Sample.{Sample}
-use Rattle.ld_journal.specs.Journal.{samples_of}
+use Rattle.ld_journal.specs.Journal.{journal_text, samples_of}
+use Rattle.ld_journal.specs.declared.header.Header.{Header}
 use Rattle.ld_journal.specs.Writable.{IsWritable}
 use Rattle.ld_machine.specs.Effect.{state_after}
 use Rattle.ld_machine.specs.History.{IsLegal}
-use Rattle.ld_machine.specs.Rehearsal.{is_rehearsed_act, is_rehearsed_entry, IsRehearsed}
+use Rattle.ld_machine.specs.Rehearsal.{is_rehearsed_act, is_rehearsed_entry, nothing_late, FirstRefusal, IsRehearsed}
+use Rattle.ld_machine.specs.Settled.{IsSettled}
 use Rattle.ld_machine.specs.State.{busy_count, opening}
 use Rattle.ld_machine.proofs.KeepsRoomLemmas.{legal_room}
 use Rattle.ld_machine.proofs.ListLemmas.{both_true}
@@ -24,9 +26,14 @@ use Rattle.ld_plan.specs.PlanFault.{IsAccepted}
 use Rattle.ld_plan.specs.PlanView.{IsPlanOf, PlanView}
 use Rattle.ld_plan.specs.RateTest.{IsInRange, most_users}
 use Rattle.ld_plan.specs.declared.rate_test.RateTest.{RateTest}
+use Rattle.ld_rehearsal.specs.Stage.{full_reply}
+use Rattle.ld_rehearsal.specs.declared.full.FullJournal.{FullJournal}
+use Rattle.ld_summary.specs.Summary.{summary_text}
 use Rattle.ld_summary.specs.Summed.{AreSummed}
 use Rattle.ld_words.specs.RateTest.{duration_text, rate_test}
-use Rattle.ld_run.specs.Rehearsal.{header_of}
+use Rattle.ld_run.specs.Rehearsal.{entry_limit, header_of, IsRehearsalAnswer}
+use Rattle.ld_run.specs.declared.answer.Answer.{Answer}
+use Rattle.ld_run.specs.declared.answer.NamedFile.{NamedFile}
 
 -- ---- the test's text
 
@@ -40,20 +47,37 @@ above n most not = grind (arith, common_steps, not)
 longer : (front back : List ℕ) (m n : ℕ) → length front ≤ m → length back ≤ n → length (front ++ back) ≤ m + n
 longer front back m n one two = let sum : length (front ++ back) ≡ length front + length back = length-append front back in omega arith
 
+-- what stands before the rate
+abbrev test_front : List ℕ
+test_front = codes "{\"options\":{\"scenarios\":{\"main\":{\"executor\":\"constant-arrival-rate\"" ++ codes ",\"rate\":"
+
 test_short : (test : RateTest) → IsInRange test → length (rate_test test.rate test.unit test.duration test.pre test.max) ≤ 1048576
 test_short test ranges =
-    let rate = digits test.rate greatest_rate (above test.rate greatest_rate (λ more. ranges.timed.0 (inr more))) (omega arith) in
-    let unit = digits test.unit greatest_unit (above test.unit greatest_unit (λ more. ranges.timed.1 (inr more))) (omega arith) in
-    let duration = digits test.duration greatest_duration (above test.duration greatest_duration (λ more. ranges.timed.2 (inr more))) (omega arith) in
+    let rate = digits test.rate _ (above test.rate _ (λ more. ranges.timed.0 (inr more))) (omega arith) in
+    let unit = digits test.unit _ (above test.unit _ (λ more. ranges.timed.1 (inr more))) (omega arith) in
+    let duration = digits test.duration _ (above test.duration _ (λ more. ranges.timed.2 (inr more))) (omega arith) in
     let pre = digits test.pre most_users (above test.pre most_users ranges.pre) (omega arith) in
     let max = digits test.max most_users (above test.max most_users (λ more. ranges.max (inr more))) (omega arith) in
     let span : (n : ℕ) → length (decimal n) ≤ 16 → length (duration_text n) ≤ 18 = λ n short. longer (decimal n) (codes "ns") 16 2 short (omega arith) in
-    let behind_rate = longer _ (decimal test.rate) 200 16 (omega arith) rate in
-    let behind_unit = longer _ (duration_text test.unit) 316 18 (longer _ (codes ",\"timeUnit\":\"") 216 100 behind_rate (omega arith)) (span test.unit unit) in
-    let behind_duration = longer _ (duration_text test.duration) 434 18 (longer _ (codes "\",\"duration\":\"") 334 100 behind_unit (omega arith)) (span test.duration duration) in
-    let behind_pre = longer _ (decimal test.pre) 552 16 (longer _ (codes "\",\"preAllocatedVUs\":") 452 100 behind_duration (omega arith)) pre in
-    let behind_max = longer _ (decimal test.max) 668 16 (longer _ (codes ",\"maxVUs\":") 568 100 behind_pre (omega arith)) max in
-    let whole = longer _ (codes "}}},\"scripts\":{\"default\":[]}}") 684 100 behind_max (omega arith) in
+    let one = test_front ++ decimal test.rate in
+    let to_one = longer test_front (decimal test.rate) 200 16 (omega arith) rate in
+    let two = one ++ codes ",\"timeUnit\":\"" in
+    let to_two = longer one (codes ",\"timeUnit\":\"") 216 100 to_one (omega arith) in
+    let three = two ++ duration_text test.unit in
+    let to_three = longer two (duration_text test.unit) 316 18 to_two (span test.unit unit) in
+    let four = three ++ codes "\",\"duration\":\"" in
+    let to_four = longer three (codes "\",\"duration\":\"") 334 100 to_three (omega arith) in
+    let five = four ++ duration_text test.duration in
+    let to_five = longer four (duration_text test.duration) 434 18 to_four (span test.duration duration) in
+    let six = five ++ codes "\",\"preAllocatedVUs\":" in
+    let to_six = longer five (codes "\",\"preAllocatedVUs\":") 452 100 to_five (omega arith) in
+    let seven = six ++ decimal test.pre in
+    let to_seven = longer six (decimal test.pre) 552 16 to_six pre in
+    let eight = seven ++ codes ",\"maxVUs\":" in
+    let to_eight = longer seven (codes ",\"maxVUs\":") 568 100 to_seven (omega arith) in
+    let nine = eight ++ decimal test.max in
+    let to_nine = longer eight (decimal test.max) 668 16 to_eight max in
+    let whole = longer nine (codes "}}},\"scripts\":{\"default\":[]}}") 684 100 to_nine (omega arith) in
     omega (arith, whole)
 
 -- ---- samples
@@ -112,3 +136,43 @@ summed seen history legal =
       paired = refl;
       legal = All-cons (λ (p : PlanView × HistoryView). IsLegal p.0.plan p.1.entries) (seen, history) [] legal (All-nil (λ (p : PlanView × HistoryView). IsLegal p.0.plan p.1.entries));
     }
+
+-- ---- the answer
+
+-- a journal was written behind nothing
+pub journal_written : (header wanted : Header) (entries played : List Entry) (before after bytes : List ℕ) → header ≡ wanted → entries ≡ played → before ≡ [] →
+    after ≡ before ++ journal_text header entries → bytes ≡ after → bytes ≡ journal_text wanted played
+journal_written header wanted entries played before after bytes same_header same_entries empty wrote is =
+    is
+    ∙ wrote
+    ∙ ap (λ (front : List ℕ). front ++ journal_text header entries) empty
+    ∙ ap (λ (h : Header). journal_text h entries) same_header
+    ∙ ap (λ (es : List Entry). journal_text wanted es) same_entries
+
+abbrev file_named : List ℕ → List ℕ → Option NamedFile
+file_named called written = Some (record { name = called; bytes = written })
+
+named : (called journal written text : List ℕ) → called ≡ journal → written ≡ text → file_named called written ≡ file_named journal text
+named called journal written text name bytes = rw (name, bytes) refl
+
+-- all that was rehearsed and written is the answer
+pub answered : (test : RateTest) (entries : Option ℕ) (limit iteration : ℕ) (journal called : List ℕ) (seen played : PlanView) (history : HistoryView) (lacked : Option FullJournal)
+    (written summary : List ℕ) → limit ≡ entry_limit entries → played ≡ seen → IsPlanOf test limit seen → IsAccepted test limit → IsRehearsed seen.plan iteration history.entries →
+    FirstRefusal seen.plan history.entries (option_map full_reply lacked) → (lacked ≡ None → IsSettled seen.plan history.entries) → (lacked ≡ None → IsTrue (nothing_late history.entries)) →
+    called ≡ journal → written ≡ journal_text (header_of test limit) history.entries → summary ≡ summary_text (played ∷ []) (history ∷ []) →
+    IsRehearsalAnswer test (entry_limit entries) iteration journal (record { file = Some (record { name = called; bytes = written }); text = summary; full = lacked })
+answered test entries limit iteration journal called seen played history lacked written summary most same is accepted rehearsed first settled in_time name bytes text =
+    let answer : Answer = record { file = Some (record { name = called; bytes = written }); text = summary; full = lacked } in
+    subst (λ (n : ℕ). IsRehearsalAnswer test n iteration journal answer) most
+    (record {
+      seen = seen;
+      is_plan = is;
+      accepted = accepted;
+      history = history;
+      rehearsed = rehearsed;
+      first = first;
+      settled = settled;
+      in_time = in_time;
+      file = named called journal written (journal_text (header_of test limit) history.entries) name bytes;
+      text = text ∙ ap (λ (p : PlanView). summary_text (p ∷ []) (history ∷ [])) same;
+    })

@@ -1,3 +1,4 @@
+use Rattle.ld_run.proofs.RequestLemmas.{answer_utf8}
 use Rattle.ld_run.proofs.DeskLemmas.{answer_run, refusal_run}
 use Rattle.ld_run.proofs.desk.desk_command.Goals as goal
 
@@ -6,3 +7,6 @@ returns-in-Ok g c = answer_run _ _ _ _ _ _ _ _ _ c.in-Ok.ensures c.deliver.ensur
 
 pub returns-in-Err : goal.returns-in-Err
 returns-in-Err g c = refusal_run _ _ _ _ _ _ _ c.in-Err.ensures c.refuse.ensures
+
+pub deliver-requires : goal.deliver-requires
+deliver-requires g c = answer_utf8 _ _ c.in-Ok.ensures
