@@ -1,7 +1,6 @@
 -- How an answer is written, put together from its steps.
-use Rattle.std.proofs.Common.{◌≡◌, ◌≤◌, ◌⊎◌, ℕ, List, Option, None, Some, inl, inr, arith, refl, subst, sym}
+use Rattle.std.proofs.Common.{◌≡◌, ◌≤◌, ◌⊎◌, ℕ, List, Option, None, Some, inl, inr, arith, refl}
 use Rattle.std.specs.Prelude.{Result, Ok, Err}
-use Rattle.ld_outside.specs.Shelf.{IsPutFile}
 use Rattle.ld_outside.specs.ShelfView.{ShelfView}
 use Rattle.ld_outside.specs.Sink.{IsPutAll}
 use Rattle.ld_outside.specs.SinkView.{SinkView, Rose, TookFront}
@@ -12,10 +11,10 @@ use Rattle.ld_rehearsal.specs.declared.full.FullJournal.{FullJournal}
 use Rattle.ld_run.specs.Answer.{full_line}
 use Rattle.ld_run.specs.Delivery.{FrontFiled, IsDelivered, IsEndSaid, IsFiled, WholeFiled}
 use Rattle.ld_run.specs.Refusal.{memory_line}
-use Rattle.ld_run.specs.Saying.{IsSaid, Says, Untouched, write_line}
+use Rattle.ld_run.specs.Saying.{IsSaid, write_line}
 use Rattle.ld_run.specs.declared.answer.Answer.{Answer}
 use Rattle.ld_run.specs.declared.answer.NamedFile.{NamedFile}
-use Rattle.ld_run.proofs.SayingLemmas.{said_front, said_memory, untouched, whole_front}
+use Rattle.ld_run.proofs.SayingLemmas.{said_memory, untouched, whole_front}
 
 -- ---- the file
 

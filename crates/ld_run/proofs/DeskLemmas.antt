@@ -1,8 +1,7 @@
 -- The run of the desk, put together from what was read and what was said.
-use Rattle.std.proofs.Common.{◌≡◌, ◌≢◌, ◌≤◌, ◌⊎◌, ◌++◌, ◌∙◌, [], ℕ, List, inl, inr, arith, refl, sym, subst, ap}
-use Rattle.std.specs.Prelude.{Option, Some, None, IfSome, IsSomeAnd}
-use Rattle.std.proofs.lemmas.List.{append-nil}
-use Rattle.ld_outside.specs.SinkView.{SinkView, Took, TookFront, Rose}
+use Rattle.std.proofs.Common.{◌≡◌, ◌≢◌, ◌≤◌, ◌⊎◌, ◌∙◌, ℕ, List, inl, inr, arith, refl, sym, subst, ap}
+use Rattle.std.specs.Prelude.{Option, Some, None}
+use Rattle.ld_outside.specs.SinkView.{SinkView, TookFront, Rose}
 use Rattle.ld_outside.specs.ShelfView.{ShelfView}
 use Rattle.ld_machine.proofs.ListLemmas.{some_not_none}
 use Rattle.ld_plan.specs.PlanFault as plan
@@ -190,6 +189,7 @@ answer_run words answer status shelf shelf' out out' err err' has put = run put.
       out_count = put.out_count;
       err_count = put.err_count;
     }
+
     run : ((status ≡ 0) × (answer.full ≡ None) × AllWritten answer shelf shelf' out out' × Untouched err err')
         ⊎ (((full : FullJournal) × (answer.full ≡ Some full) × (status ≡ 7) × AllWritten answer shelf shelf' out out' × Says err (full_line full) err')
         ⊎ (((status ≡ 4) × FileBroken answer shelf shelf' out out' × Rose shelf.write_faults shelf'.write_faults × Says err write_line err')

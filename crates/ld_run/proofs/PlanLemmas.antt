@@ -1,5 +1,5 @@
 -- A test that is accepted isn't refused.
-use Rattle.std.proofs.Common.{◌≡◌, ◌<◌, ◌≤◌, ℕ, arith}
+use Rattle.std.proofs.Common.{◌<◌, ◌≤◌, ℕ, arith}
 use Rattle.ld_plan.specs.PlanFault.{IsAccepted, IsRefusal, needed_entries}
 use Rattle.ld_plan.specs.declared.fault.PlanFault.{PlanFault}
 use Rattle.ld_plan.specs.declared.fault.PlanFault.TheVariants.{Range, MaxBelowPre, TooManyArrivals, JournalTooSmall, Memory}

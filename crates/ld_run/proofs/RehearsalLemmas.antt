@@ -1,5 +1,5 @@
 -- The journal and the summary of a rehearsal: that they may be written.
-use Rattle.std.proofs.Common.{◌≡◌, ◌≤◌, ◌<◌, ◌+◌, ◌*◌, ◌^◌, ◌==◌, ◌&&◌, ℕ, Bool, true, false, List, [], ◌∷◌, ◌++◌, Option, None, Some, All, IsTrue, inr, arith, ap, codes, decimal, length, map, refl, rules, subst, sym, ◌∙◌}
+use Rattle.std.proofs.Common.{◌≡◌, ◌≤◌, ◌<◌, ◌+◌, ◌^◌, ◌==◌, ℕ, true, List, [], ◌∷◌, ◌++◌, Option, None, Some, IsTrue, inr, arith, ap, codes, decimal, length, refl, rules, subst, ◌∙◌}
 use Rattle.std.specs.Prelude.{option_map}
 use Rattle.std.specs.List.{flat_map, list_all}
 use Rattle.std.proofs.lemmas.Fmt.{length-decimal-le}

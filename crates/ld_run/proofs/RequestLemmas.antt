@@ -1,6 +1,6 @@
 -- What holds of every request of words: its numbers, and the name of its journal.
-use Rattle.std.proofs.Common.{◌≡◌, ◌≤◌, ◌<◌, ◌+◌, ℕ, Bool, true, false, cond, List, [], ◌∷◌, ◌++◌, Option, None, Some, arith, ap, drop, get_or, length, map, refl, subst, sym, ◌∙◌}
-use Rattle.std.specs.Prelude.{IfSome, String, find, string_bytes, unwrap_or}
+use Rattle.std.proofs.Common.{◌≡◌, ◌≤◌, ◌+◌, ℕ, Bool, true, false, cond, List, [], ◌∷◌, ◌++◌, Option, None, Some, arith, ap, get_or, length, map, refl, subst, sym, ◌∙◌}
+use Rattle.std.specs.Prelude.{IfSome, String, find, string_bytes}
 use Rattle.std.specs.List.{AllByRecursion, flat_map}
 use Rattle.std.specs.Option.{option_and_then, option_map}
 use Rattle.std.specs.Str.{IsUtf8}
@@ -8,9 +8,8 @@ use Rattle.std.proofs.Math.Seq.{drop-append-add, get_or-append_seam}
 use Rattle.std.proofs.lemmas.List.{length-append}
 use Rattle.std.proofs.lemmas.Str.{IsCharBoundary-after_ascii, IsUtf8-drop, IsUtf8-string_bytes}
 use Rattle.ld_words.specs.Number.{number_of}
-use Rattle.ld_words.specs.Options.{name_text, option_words, value_of, AreOptions, Given, Written, is_name}
-use Rattle.ld_words.specs.OptionWords.{SpanUnder}
-use Rattle.ld_words.specs.Values.{IsEntries, IsValueOf}
+use Rattle.ld_words.specs.Options.{name_text, option_words, value_of, Given, Written, is_name}
+use Rattle.ld_words.specs.Values.{IsEntries}
 use Rattle.ld_words.specs.Words as words
 use Rattle.ld_words.specs.declared.option.OptionName.{OptionName}
 use Rattle.ld_words.specs.declared.option.OptionName.TheVariants.{Journal, Entries}
@@ -21,9 +20,8 @@ use Rattle.ld_machine.proofs.ListLemmas.{some_not_none}
 use Rattle.ld_run.specs.Answer.{HasUtf8Name}
 use Rattle.ld_run.specs.Refusal.{HasAnswer, IsAnswerOf}
 use Rattle.ld_run.specs.Rehearsal.{entry_limit}
-use Rattle.ld_run.specs.Request.{IsAsked, IsPlayable}
+use Rattle.ld_run.specs.Request.{IsAsked}
 use Rattle.ld_run.specs.declared.answer.Answer.{Answer}
-use Rattle.ld_run.specs.declared.answer.NamedFile.{NamedFile}
 
 -- ---- numbers
 

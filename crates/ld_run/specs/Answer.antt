@@ -1,5 +1,5 @@
 -- What words ask for, before any of it is written.
-use Rattle.std.specs.Prelude.{◌≡◌, ℕ, List, Option, None, Some, ◌++◌, ◌∷◌, [], IfSome, codes, decimal}
+use Rattle.std.specs.Prelude.{ℕ, List, None, ◌++◌, ◌∷◌, [], IfSome, codes, decimal}
 use Rattle.std.specs.Str.{IsUtf8}
 use Rattle.ld_base.specs.declared.reply.Room.{Room}
 use Rattle.ld_base.specs.declared.reply.Room.TheVariants.{Entries, Samples}

@@ -1,7 +1,7 @@
 -- A run of the desk: words in, a status out, and what was put on the shelf and on the two sinks.
 use Rattle.std.specs.Prelude.{◌≡◌, ◌≤◌, ◌⊎◌, ℕ, List, None, Some}
 use Rattle.ld_outside.specs.ShelfView.{ShelfView}
-use Rattle.ld_outside.specs.SinkView.{SinkView, Took, TookFront, Rose}
+use Rattle.ld_outside.specs.SinkView.{SinkView, TookFront, Rose}
 use Rattle.ld_rehearsal.specs.declared.full.FullJournal.{FullJournal}
 use Rattle.ld_run.specs.Answer.{full_line}
 use Rattle.ld_run.specs.Delivery.{AllWritten, FileBroken, IsEndLine, TextBroken}

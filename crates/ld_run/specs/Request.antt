@@ -1,5 +1,5 @@
 -- What every request of words keeps to.
-use Rattle.std.specs.Prelude.{◌≤◌, ◌<◌, ℕ, Option}
+use Rattle.std.specs.Prelude.{◌≤◌, ℕ, Option}
 use Rattle.ld_words.specs.declared.words.Words as requests
 use Rattle.ld_words.specs.declared.words.Words.TheVariants.{StripeWeights, StripeSegment, RehearseWords}
 use Rattle.ld_run.specs.Rehearsal.{entry_limit}

@@ -24,7 +24,11 @@ fn check<R: AllocGlobal + Abort>(
     let mut out = SureSink::new(rt.alloc());
     let mut err = SureSink::new(rt.alloc());
     let mut shelf = no_files(rt.alloc());
-    assert_eq!(rt; command(rt, &words, &mut shelf, &mut out, &mut err), status, "{line}");
+    assert_eq!(rt;
+        command(rt, &words, &mut shelf, &mut out, &mut err),
+        status,
+        "{line}"
+    );
     assert!(rt; out.taken() == text.as_bytes(), "{line}");
     assert!(rt; err.taken() == said.as_bytes(), "{line}");
     Ok(())
@@ -196,7 +200,10 @@ fn sinks_that_fail(rt: HostRuntime) -> Result<(), Fail> {
             err = MemSink::new(rt.alloc(), first_call(rt.alloc())?);
         }
         let mut shelf = no_files(rt.alloc());
-        assert_eq!(rt; command(&rt, &words, &mut shelf, &mut out, &mut err), status);
+        assert_eq!(rt;
+            command(&rt, &words, &mut shelf, &mut out, &mut err),
+            status
+        );
         assert!(rt; out.taken().is_empty());
         assert_eq!(rt; err.taken(), said.as_bytes());
     }

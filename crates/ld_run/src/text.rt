@@ -75,7 +75,12 @@ pub fn plan_line(alloc: Global, fault: &PlanFault) -> Result<Vec<u8>, BaseFault>
         PlanFault::Range(field) => line_at(alloc, b"error 62 Range ", *field),
         PlanFault::MaxBelowPre(field) => line_at(alloc, b"error 64 MaxBelowPre ", *field),
         PlanFault::TooManyArrivals { scenario, count } => {
-            line_with_two(alloc, b"error 31 TooManyArrivals ", *scenario as u64, *count)
+            line_with_two(
+                alloc,
+                b"error 31 TooManyArrivals ",
+                *scenario as u64,
+                *count,
+            )
         }
         PlanFault::JournalTooSmall { needed, limit } => {
             line_with_two(alloc, b"error 81 JournalTooSmall ", *needed, *limit as u64)

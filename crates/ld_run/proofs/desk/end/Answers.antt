@@ -1,4 +1,3 @@
-use Rattle.std.proofs.Common.{◌∙◌, sym}
 use Rattle.ld_run.proofs.DeliveryLemmas.{full_lacked, full_said}
 use Rattle.ld_run.proofs.desk.end.Goals as goal
 
