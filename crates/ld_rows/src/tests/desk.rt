@@ -1,7 +1,7 @@
 // A desk with objects in memory, at which a command line is carried out.
 
 use ld_base::{Bytes, Text};
-use ld_outside::{Files, MemShelf, MemSink, Numbers, Shelf, ShelfCallKind, Sink};
+use ld_outside::{Files, MemShelf, MemSink, Numbers, ShelfCallKind};
 use ld_run::command;
 use std::alloc::{AllocError, Global};
 use std::process::Abort;

@@ -1,6 +1,8 @@
 // Rehearsals that are played.
 
-use crate::tests::desk::{Row, check};
+use crate::tests::desk::{Row, check, split};
+use ld_outside::{Files, SureShelf, SureSink};
+use ld_run::command;
 use std::test::Fail;
 
 /// The journal of two arrivals with one user: the second is dropped, since the first is under way.
@@ -20,7 +22,8 @@ end 6
 "#;
 
 /// The summary of these arrivals.
-pub const ONE_USER_SUMMARY: &str = "users 1 1\nscenario main planned 2 started 1 done 1 interrupted 0 dropped 1 late 0\n";
+pub const ONE_USER_SUMMARY: &str =
+    "users 1 1\nscenario main planned 2 started 1 done 1 interrupted 0 dropped 1 late 0\n";
 
 /// The line of these arrivals.
 pub const ONE_USER_LINE: &str =
@@ -157,7 +160,8 @@ fn rehearsals(rt: HostRuntime) -> Result<(), Fail> {
 /// their values.
 #[test]
 fn durations(rt: HostRuntime) -> Result<(), Fail> {
-    let all_done = "users 1 1\nscenario main planned 2 started 2 done 2 interrupted 0 dropped 0 late 0\n";
+    let all_done =
+        "users 1 1\nscenario main planned 2 started 2 done 2 interrupted 0 dropped 0 late 0\n";
     let table = [
         (
             "rehearse --rate 1 --unit 1500ms --duration 3s --pre 1 --max 1 --iteration 0.5s --journal j",
@@ -190,5 +194,20 @@ fn durations(rt: HostRuntime) -> Result<(), Fail> {
         };
         check(&rt, &row)?;
     }
+    Ok(())
+}
+
+/// Objects that never fail give the same.
+#[test]
+fn at_a_sure_desk(rt: HostRuntime) -> Result<(), Fail> {
+    let alloc = rt.alloc();
+    let words = split(alloc, ONE_USER_LINE)?;
+    let mut shelf = SureShelf::new(alloc, Files::of(Vec::new(alloc)));
+    let mut out = SureSink::new(alloc);
+    let mut err = SureSink::new(alloc);
+    assert_eq!(rt; command(&rt, &words, &mut shelf, &mut out, &mut err), 0);
+    assert!(rt; out.taken() == ONE_USER_SUMMARY.as_bytes());
+    assert!(rt; err.taken().is_empty());
+    assert!(rt; shelf.file("j") == Some(ONE_USER.as_bytes()));
     Ok(())
 }
