@@ -110,10 +110,18 @@ pub fn check<R: AllocGlobal + Abort>(rt: &R, row: &Row<'_>) -> Result<(), Fail> 
     Ok(())
 }
 
+/// Whether the shelf has a file of this name with this text.
+pub fn holds(shelf: &MemShelf, name: &str, text: &str) -> bool {
+    match shelf.file(name) {
+        Some(bytes) => bytes == text.as_bytes(),
+        None => false,
+    }
+}
+
 // Checks that the file `j` was started and written, and is this text.
 fn check_written<R: Abort>(rt: &R, shelf: &MemShelf, line: &str, journal: &str) {
-    assert!(rt; shelf.file("j") == Some(journal.as_bytes()), "{line}");
-    assert!(rt; shelf.file("k") == Some(KEPT.as_bytes()), "{line}");
+    assert!(rt; holds(shelf, "j", journal), "{line}");
+    assert!(rt; holds(shelf, "k", KEPT), "{line}");
     assert!(rt; shelf.calls().len() >= 2, "{line}");
     for (at, call) in shelf.calls().iter().enumerate() {
         assert_eq!(rt; call.kind == ShelfCallKind::Start, at == 0, "{line}");
@@ -125,6 +133,6 @@ fn check_written<R: Abort>(rt: &R, shelf: &MemShelf, line: &str, journal: &str) 
 // Checks that no call was made of the shelf, and that its files are as they were.
 fn check_untouched<R: Abort>(rt: &R, shelf: &MemShelf, line: &str) {
     assert!(rt; shelf.calls().is_empty(), "{line}");
-    assert!(rt; shelf.file("j") == Some(OLD.as_bytes()), "{line}");
-    assert!(rt; shelf.file("k") == Some(KEPT.as_bytes()), "{line}");
+    assert!(rt; holds(shelf, "j", OLD), "{line}");
+    assert!(rt; holds(shelf, "k", KEPT), "{line}");
 }

@@ -1,6 +1,6 @@
 // Sinks and shelves that fail.
 
-use crate::tests::desk::{Failing, KEPT, OLD, SURE, play};
+use crate::tests::desk::{Failing, KEPT, OLD, SURE, holds, play};
 use crate::tests::rehearsals::{ONE_USER, ONE_USER_LINE, ONE_USER_SUMMARY};
 use std::test::Fail;
 
@@ -12,8 +12,8 @@ fn an_output_that_fails(rt: HostRuntime) -> Result<(), Fail> {
     assert_eq!(rt; played.status, 4);
     assert!(rt; played.out.taken().is_empty());
     assert!(rt; played.err.taken() == "error write\n".as_bytes());
-    assert!(rt; played.shelf.file("j") == Some(ONE_USER.as_bytes()));
-    assert!(rt; played.shelf.file("k") == Some(KEPT.as_bytes()));
+    assert!(rt; holds(&played.shelf, "j", ONE_USER));
+    assert!(rt; holds(&played.shelf, "k", KEPT));
     Ok(())
 }
 
@@ -29,8 +29,8 @@ fn a_start_that_fails(rt: HostRuntime) -> Result<(), Fail> {
     assert!(rt; played.out.taken().is_empty());
     assert!(rt; played.err.taken() == "error write\n".as_bytes());
     assert_eq!(rt; played.shelf.calls().len(), 1);
-    assert!(rt; played.shelf.file("j") == Some(OLD.as_bytes()));
-    assert!(rt; played.shelf.file("k") == Some(KEPT.as_bytes()));
+    assert!(rt; holds(&played.shelf, "j", OLD));
+    assert!(rt; holds(&played.shelf, "k", KEPT));
     Ok(())
 }
 
@@ -50,7 +50,7 @@ fn an_append_that_fails(rt: HostRuntime) -> Result<(), Fail> {
     };
     assert!(rt; ONE_USER.as_bytes().starts_with(front));
     assert!(rt; front.len() < ONE_USER.len());
-    assert!(rt; played.shelf.file("k") == Some(KEPT.as_bytes()));
+    assert!(rt; holds(&played.shelf, "k", KEPT));
     Ok(())
 }
 

@@ -8,58 +8,57 @@ use std::test::Fail;
 fn tests_without_a_plan(rt: HostRuntime) -> Result<(), Fail> {
     let table = [
         (
-            "--rate 0 --unit 1s --duration 1s --pre 1 --max 1",
+            "rehearse --rate 0 --unit 1s --duration 1s --pre 1 --max 1 --iteration 1s --journal j",
             "error 62 Range /options/scenarios/main/rate\n",
         ),
         (
-            "--rate 1000001 --unit 1s --duration 1s --pre 1 --max 1",
+            "rehearse --rate 1000001 --unit 1s --duration 1s --pre 1 --max 1 --iteration 1s --journal j",
             "error 62 Range /options/scenarios/main/rate\n",
         ),
         (
-            "--rate 1 --unit 24h1ns --duration 1s --pre 1 --max 1",
+            "rehearse --rate 1 --unit 24h1ns --duration 1s --pre 1 --max 1 --iteration 1s --journal j",
             "error 62 Range /options/scenarios/main/timeUnit\n",
         ),
         (
-            "--rate 1 --unit 1s --duration 1s --pre 1001 --max 1001",
+            "rehearse --rate 1 --unit 1s --duration 1s --pre 1001 --max 1001 --iteration 1s --journal j",
             "error 62 Range /options/scenarios/main/preAllocatedVUs\n",
         ),
         (
-            "--rate 1 --unit 1s --duration 1s --pre 0 --max 0",
+            "rehearse --rate 1 --unit 1s --duration 1s --pre 0 --max 0 --iteration 1s --journal j",
             "error 62 Range /options/scenarios/main/maxVUs\n",
         ),
         (
-            "--rate 1 --unit 1s --duration 1s --pre 1000 --max 1001",
+            "rehearse --rate 1 --unit 1s --duration 1s --pre 1000 --max 1001 --iteration 1s --journal j",
             "error 62 Range /options/scenarios/main/maxVUs\n",
         ),
         (
-            "--rate 1 --unit 1s --duration 1s --pre 2 --max 1",
+            "rehearse --rate 1 --unit 1s --duration 1s --pre 2 --max 1 --iteration 1s --journal j",
             "error 64 MaxBelowPre /options/scenarios/main/maxVUs\n",
         ),
         (
-            "--rate 1000000 --unit 1s --duration 1s --pre 1 --max 1",
+            "rehearse --rate 1000000 --unit 1s --duration 1s --pre 1 --max 1 --iteration 1s --journal j",
             "error 31 TooManyArrivals 0 1000000\n",
         ),
         (
-            "--rate 400001 --unit 1s --duration 1s --pre 1 --max 1",
+            "rehearse --rate 400001 --unit 1s --duration 1s --pre 1 --max 1 --iteration 1s --journal j",
             "error 31 TooManyArrivals 0 400001\n",
         ),
         (
-            "--rate 10 --unit 1s --duration 1s --pre 1 --max 1 --entries 10",
+            "rehearse --rate 10 --unit 1s --duration 1s --pre 1 --max 1 --iteration 1s --journal j --entries 10",
             "error 81 JournalTooSmall 21 10\n",
         ),
         (
-            "--rate 5 --unit 1s --duration 1s --pre 1 --max 1 --entries 10",
+            "rehearse --rate 5 --unit 1s --duration 1s --pre 1 --max 1 --iteration 1s --journal j --entries 10",
             "error 81 JournalTooSmall 11 10\n",
         ),
         (
-            "--rate 0 --unit 2d --duration 1s --pre 2 --max 1",
+            "rehearse --rate 0 --unit 2d --duration 1s --pre 2 --max 1 --iteration 1s --journal j",
             "error 62 Range /options/scenarios/main/rate\n",
         ),
     ];
-    for (words, err) in table {
-        let line = format!(in rt.alloc(); "rehearse {words} --iteration 1s --journal j")?;
+    for (line, err) in table {
         let row = Row {
-            line: line.as_str(),
+            line,
             status: 5,
             out: "",
             err,

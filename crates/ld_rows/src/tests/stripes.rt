@@ -6,12 +6,12 @@ use std::process::Abort;
 use std::test::Fail;
 
 // Carries out the command of a line, which writes no file, and compares what it gives.
-fn check_line<R: AllocGlobal + Abort>(
+fn check_line<'a, R: AllocGlobal + Abort>(
     rt: &R,
-    line: &str,
+    line: &'a str,
     status: u8,
-    out: &str,
-    err: &str,
+    out: &'a str,
+    err: &'a str,
 ) -> Result<(), Fail> {
     let row = Row {
         line,
