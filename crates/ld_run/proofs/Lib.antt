@@ -3,3 +3,7 @@ pub mod DeskLemmas
 pub mod IndicesLemmas
 pub mod SayingLemmas
 pub mod StripeLemmas
+pub mod PlanLemmas
+pub mod RequestLemmas
+pub mod DeliveryLemmas
+pub mod RehearsalLemmas

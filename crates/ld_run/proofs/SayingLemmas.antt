@@ -1,15 +1,12 @@
--- Lines for want of memory.
-use Rattle.std.proofs.Common.{◌≡◌, ◌⊎◌, ℕ, List, inl, inr, length, arith, subst, sym}
-use Rattle.std.specs.Prelude.{Err}
-use Rattle.ld_outside.specs.Sink.{IsPutAll}
-use Rattle.ld_outside.specs.declared.sink.SinkFault.TheVariants.{Memory}
+-- Sinks and lines: what was said, and what wasn't touched.
+use Rattle.std.proofs.Common.{◌≡◌, ◌⊎◌, ◌++◌, [], ℕ, List, inl, inr, length, append-nil, refl, subst, sym}
+use Rattle.std.specs.Prelude.{Option, Some, None, IfSome, IsSomeAnd}
 use Rattle.std.proofs.Math.Seq.{take-length}
 use Rattle.ld_outside.specs.SinkView.{SinkView, Took, TookFront}
-use Rattle.ld_run.specs.Refusal.{memory_line}
-use Rattle.ld_run.specs.Saying.{Says, IsSaid, IsTextPut}
+use Rattle.ld_run.specs.Saying.{Says, IsSaid, Untouched}
 
 -- what was taken whole is a front
-whole_front : (old new : SinkView) (line : List ℕ) → Took old line new → TookFront old line new
+pub whole_front : (old new : SinkView) (line : List ℕ) → Took old line new → TookFront old line new
 whole_front old new line took = (length line, subst (λ l. Took old l new) (sym (take-length line)) took)
 
 -- a line that was said is a front that was taken
@@ -26,15 +23,10 @@ said_memory line result err err' said = cases said.said
     cases (inl s) = (s.0, said_front err err' line s.1)
     cases (inr f) = f
 
--- a text that was broken off for want of memory
-pub memory_put : {T : Type 0} (text : List ℕ) (status : ℕ) (out out' err err' : SinkView) →
-    IsPutAll {T = T} out text (Err Memory) out' → IsSaid memory_line 9 status err err' →
-    IsTextPut text status out out' err err'
-memory_put text status out out' err err' put said =
-    let line = said_memory memory_line status err err' said in
-    let same = put.faults in
-    record {
-      put = inr (inr (line.0, put.front, inr line.1));
-      out_count = omega arith;
-      err_count = said.count;
-    }
+-- a sink that no call was made of
+pub untouched : (out : SinkView) → Untouched out out
+untouched out = (same out.told, refl)
+  where
+    same : (told : Option (List ℕ)) → IfSome told (λ now. IsSomeAnd told (λ before. now ≡ before ++ []))
+    same None = tt
+    same (Some bytes) = sym (append-nil bytes)

@@ -1,7 +1,9 @@
 // The answer of `rehearse`.
-ghost use Rattle.std.specs.Prelude.{◌≡◌, ◌≢◌, ◌≤◌, IfOk, MatchResult};
+ghost use Rattle.std.specs.Prelude.{◌≡◌, ◌≢◌, ◌≤◌, ◌∷◌, [], MatchResult};
 ghost use Rattle.ld_journal.specs.Journal.{journal_text};
 ghost use Rattle.ld_journal.specs.Writable.{IsWritable};
+ghost use Rattle.ld_machine.specs.History.{IsLegal};
+ghost use Rattle.ld_summary.specs.Summary.{summary_text};
 ghost use Rattle.ld_run.specs.Rehearsal.{entry_limit, header_of, IsRehearsalAnswer, IsRehearsalRefusal};
 ghost use Rattle.ld_run.specs.declared.refusal.Refusal.{Refusal};
 
@@ -14,6 +16,7 @@ use ld_rehearsal::{Rehearsed, rehearse};
 use ld_summary::summary_text;
 use ld_words::rate_test_text;
 use std::alloc::Global;
+use std::slice;
 
 /// How many entries a journal may have, where the words don't say it.
 const MOST_ENTRIES: u32 = 1_000_000;
@@ -41,18 +44,26 @@ pub fn rehearsal_answer(
         history,
         full,
     } = rehearse(alloc, plan, iteration)?;
-    let plans = [plan];
-    let histories = [history];
-    let mut summary = Vec::new(alloc);
-    summary_text(&plans, &histories, &mut summary)?;
-    let [history] = histories;
+    let text = summary_of(alloc, &plan, &history)?;
     let bytes = journal_bytes(alloc, test, limit, history)?;
     let name = Text::of(Vec::from_slice(alloc, journal.as_slice())?);
     Ok(Answer {
         file: Some(NamedFile { name, bytes }),
-        text: Text::of(summary),
+        text,
         full,
     })
+}
+
+// The summary of one history.
+fn summary_of(alloc: Global, plan: &Plan, history: &History) -> Result<Text, Refusal>
+    requires { IsLegal plan.now.plan history.now.entries }
+    ensures { MatchResult result
+        (λ text. text ≡ summary_text (plan.now ∷ []) (history.now ∷ []))
+        (λ refusal. refusal ≡ Refusal.Memory) }
+{
+    let mut text = Vec::new(alloc);
+    summary_text(slice::from_ref(plan), slice::from_ref(history), &mut text)?;
+    Ok(Text::of(text))
 }
 
 // The journal of a history of a test that is played whole.

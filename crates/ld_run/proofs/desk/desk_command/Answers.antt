@@ -1,8 +1,12 @@
-use Rattle.ld_run.proofs.DeskLemmas.{text_run, refusal_run}
+use Rattle.ld_run.proofs.RequestLemmas.{answer_utf8}
+use Rattle.ld_run.proofs.DeskLemmas.{answer_run, refusal_run}
 use Rattle.ld_run.proofs.desk.desk_command.Goals as goal
 
 pub returns-in-Ok : goal.returns-in-Ok
-returns-in-Ok g c = text_run _ _ _ _ _ _ _ c.in-Ok.ensures (rw c.deref.ensures.value at c.put_text.ensures)
+returns-in-Ok g c = answer_run _ _ _ _ _ _ _ _ _ c.in-Ok.ensures c.deliver.ensures
 
 pub returns-in-Err : goal.returns-in-Err
-returns-in-Err g c = refusal_run _ _ _ _ _ _ c.in-Err.ensures c.refuse.ensures
+returns-in-Err g c = refusal_run _ _ _ _ _ _ _ c.in-Err.ensures c.refuse.ensures
+
+pub deliver-requires : goal.deliver-requires
+deliver-requires g c = answer_utf8 _ _ c.in-Ok.ensures

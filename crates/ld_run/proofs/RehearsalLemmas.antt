@@ -1,0 +1,178 @@
+-- The journal and the summary of a rehearsal: that they may be written.
+use Rattle.std.proofs.Common.{◌≡◌, ◌≤◌, ◌<◌, ◌+◌, ◌*◌, ◌^◌, ◌==◌, ◌&&◌, ℕ, Bool, true, false, List, [], ◌∷◌, ◌++◌, Option, None, Some, All, IsTrue, inr, arith, ap, codes, decimal, length, map, refl, rules, subst, sym, ◌∙◌}
+use Rattle.std.specs.Prelude.{option_map}
+use Rattle.std.specs.List.{flat_map, list_all}
+use Rattle.std.proofs.lemmas.Fmt.{length-decimal-le}
+use Rattle.std.proofs.lemmas.Grind.{common_steps}
+use Rattle.std.proofs.lemmas.List.{length-append}
+use Rattle.std.proofs.lemmas.List.Elements.{All-cons, All-nil}
+use Rattle.ld_base.specs.History.{HistoryView}
+use Rattle.ld_base.specs.declared.act.Act.{Act}
+use Rattle.ld_base.specs.declared.act.Act.TheVariants.{Take, Grow, Start, Drop, Late, Return, Release, Stop, Close, Control}
+use Rattle.ld_base.specs.declared.entry.Entry.{Entry}
+use Rattle.ld_base.specs.declared.sample.Sample.{Sample}
+use Rattle.ld_journal.specs.Journal.{journal_text, samples_of}
+use Rattle.ld_journal.specs.declared.header.Header.{Header}
+use Rattle.ld_journal.specs.Writable.{IsWritable}
+use Rattle.ld_machine.specs.Effect.{state_after}
+use Rattle.ld_machine.specs.History.{IsLegal}
+use Rattle.ld_machine.specs.Rehearsal.{is_rehearsed_act, is_rehearsed_entry, nothing_late, FirstRefusal, IsRehearsed}
+use Rattle.ld_machine.specs.Settled.{IsSettled}
+use Rattle.ld_machine.specs.State.{busy_count, opening}
+use Rattle.ld_machine.proofs.KeepsRoomLemmas.{legal_room}
+use Rattle.ld_machine.proofs.ListLemmas.{both_true}
+use Rattle.ld_machine.proofs.NumberedLemmas.{steps_numbered}
+use Rattle.ld_plan.specs.PlanFault.{IsAccepted}
+use Rattle.ld_plan.specs.PlanView.{IsPlanOf, PlanView}
+use Rattle.ld_plan.specs.RateTest.{IsInRange, most_users}
+use Rattle.ld_plan.specs.declared.rate_test.RateTest.{RateTest}
+use Rattle.ld_rehearsal.specs.Stage.{full_reply}
+use Rattle.ld_rehearsal.specs.declared.full.FullJournal.{FullJournal}
+use Rattle.ld_summary.specs.Summary.{summary_text}
+use Rattle.ld_summary.specs.Summed.{AreSummed}
+use Rattle.ld_words.specs.RateTest.{duration_text, rate_test}
+use Rattle.ld_run.specs.Rehearsal.{entry_limit, header_of, IsRehearsalAnswer}
+use Rattle.ld_run.specs.declared.answer.Answer.{Answer}
+use Rattle.ld_run.specs.declared.answer.NamedFile.{NamedFile}
+
+-- ---- the test's text
+
+-- numbers within a test's ranges have at most 16 digits
+digits : (n most : ℕ) → n ≤ most → most < 10 ^ 16 → length (decimal n) ≤ 16
+digits n most within few = length-decimal-le 16 n (omega arith) (omega arith) (omega arith)
+
+above : (n most : ℕ) → ((most < n) → ⊥) → n ≤ most
+above n most not = grind (arith, common_steps, not)
+
+longer : (front back : List ℕ) (m n : ℕ) → length front ≤ m → length back ≤ n → length (front ++ back) ≤ m + n
+longer front back m n one two = let sum : length (front ++ back) ≡ length front + length back = length-append front back in omega arith
+
+-- what stands before the rate
+abbrev test_front : List ℕ
+test_front = codes "{\"options\":{\"scenarios\":{\"main\":{\"executor\":\"constant-arrival-rate\"" ++ codes ",\"rate\":"
+
+test_short : (test : RateTest) → IsInRange test → length (rate_test test.rate test.unit test.duration test.pre test.max) ≤ 1048576
+test_short test ranges =
+    let rate = digits test.rate _ (above test.rate _ (λ more. ranges.timed.0 (inr more))) (omega arith) in
+    let unit = digits test.unit _ (above test.unit _ (λ more. ranges.timed.1 (inr more))) (omega arith) in
+    let duration = digits test.duration _ (above test.duration _ (λ more. ranges.timed.2 (inr more))) (omega arith) in
+    let pre = digits test.pre most_users (above test.pre most_users ranges.pre) (omega arith) in
+    let max = digits test.max most_users (above test.max most_users (λ more. ranges.max (inr more))) (omega arith) in
+    let span : (n : ℕ) → length (decimal n) ≤ 16 → length (duration_text n) ≤ 18 = λ n short. longer (decimal n) (codes "ns") 16 2 short (omega arith) in
+    let one = test_front ++ decimal test.rate in
+    let to_one = longer test_front (decimal test.rate) 200 16 (omega arith) rate in
+    let two = one ++ codes ",\"timeUnit\":\"" in
+    let to_two = longer one (codes ",\"timeUnit\":\"") 216 100 to_one (omega arith) in
+    let three = two ++ duration_text test.unit in
+    let to_three = longer two (duration_text test.unit) 316 18 to_two (span test.unit unit) in
+    let four = three ++ codes "\",\"duration\":\"" in
+    let to_four = longer three (codes "\",\"duration\":\"") 334 100 to_three (omega arith) in
+    let five = four ++ duration_text test.duration in
+    let to_five = longer four (duration_text test.duration) 434 18 to_four (span test.duration duration) in
+    let six = five ++ codes "\",\"preAllocatedVUs\":" in
+    let to_six = longer five (codes "\",\"preAllocatedVUs\":") 452 100 to_five (omega arith) in
+    let seven = six ++ decimal test.pre in
+    let to_seven = longer six (decimal test.pre) 552 16 to_six pre in
+    let eight = seven ++ codes ",\"maxVUs\":" in
+    let to_eight = longer seven (codes ",\"maxVUs\":") 568 100 to_seven (omega arith) in
+    let nine = eight ++ decimal test.max in
+    let to_nine = longer eight (decimal test.max) 668 16 to_eight max in
+    let whole = longer nine (codes "}}},\"scripts\":{\"default\":[]}}") 684 100 to_nine (omega arith) in
+    omega (arith, whole)
+
+-- ---- samples
+
+none_by_count : (samples : List Sample) → (length samples == 0) ≡ true → samples ≡ []
+none_by_count [] e = refl
+none_by_count (x ∷ xs) e = let none : length (x ∷ xs) ≡ 0 = grind (arith, common_steps) in absurd (omega arith)
+
+act_brings_none : (act : Act) → is_rehearsed_act act ≡ true → samples_of act ≡ []
+act_brings_none (Take n user slot) e = refl
+act_brings_none (Grow n user slot) e = refl
+act_brings_none (Start n user item until) e = refl
+act_brings_none (Drop n item) e = refl
+act_brings_none (Late n item) e = refl
+act_brings_none (Return n user item outcome tally) e = none_by_count tally.samples e
+act_brings_none (Release n user) e = refl
+act_brings_none (Stop n) e = refl
+act_brings_none (Close n) e = refl
+act_brings_none (Control command) e = refl
+
+-- a rehearsal has no samples
+no_samples : (history : List Entry) → list_all is_rehearsed_entry history ≡ true → flat_map (λ (entry : Entry). samples_of entry.act) history ≡ []
+no_samples [] all = refl
+no_samples (x ∷ rest) all =
+    let both = both_true (is_rehearsed_entry x) (list_all is_rehearsed_entry rest) all in
+    let act = both_true (x.thread == 0) (is_rehearsed_act x.act) both.0 in
+    rw (act_brings_none x.act act.1, no_samples rest both.1) refl
+
+-- ---- the journal
+
+pub writable : (test : RateTest) (limit iteration : ℕ) (seen : PlanView) (history : List Entry) → IsPlanOf test limit seen → IsAccepted test limit → 10 ≤ limit → limit ≤ 1000000 →
+    IsRehearsed seen.plan iteration history → IsWritable (header_of test limit) history
+writable test limit iteration seen history is accepted least most rehearsed =
+    let room : length history + busy_count (state_after seen.plan history) ≤ seen.plan.entry_limit = legal_room seen.plan history rehearsed.legal in
+    let same : seen.plan.entry_limit ≡ limit = is.entry_limit in
+    let none : length (flat_map (λ (entry : Entry). samples_of entry.act) history) ≡ 0 = ap (λ xs. length xs) (no_samples history rehearsed.entries) in
+    record {
+      test = test_short test accepted.in_range;
+      segment = record { some = omega arith; bytes = search rules };
+      sequence = record { some = omega arith; bytes = search rules };
+      least = least;
+      most = most;
+      turns = steps_numbered seen.plan history (opening seen.plan) rehearsed.legal;
+      few_entries = omega arith;
+      few_samples = omega arith;
+    }
+
+-- ---- the summary
+
+pub summed : (seen : PlanView) (history : HistoryView) → IsLegal seen.plan history.entries → AreSummed (seen ∷ []) (history ∷ [])
+summed seen history legal =
+    record {
+      some = omega arith;
+      few = omega arith;
+      one_test = search rules;
+      paired = refl;
+      legal = All-cons (λ (p : PlanView × HistoryView). IsLegal p.0.plan p.1.entries) (seen, history) [] legal (All-nil (λ (p : PlanView × HistoryView). IsLegal p.0.plan p.1.entries));
+    }
+
+-- ---- the answer
+
+-- a journal was written behind nothing
+pub journal_written : (header wanted : Header) (entries played : List Entry) (before after bytes : List ℕ) → header ≡ wanted → entries ≡ played → before ≡ [] →
+    after ≡ before ++ journal_text header entries → bytes ≡ after → bytes ≡ journal_text wanted played
+journal_written header wanted entries played before after bytes same_header same_entries empty wrote is =
+    is
+    ∙ wrote
+    ∙ ap (λ (front : List ℕ). front ++ journal_text header entries) empty
+    ∙ ap (λ (h : Header). journal_text h entries) same_header
+    ∙ ap (λ (es : List Entry). journal_text wanted es) same_entries
+
+abbrev file_named : List ℕ → List ℕ → Option NamedFile
+file_named called written = Some (record { name = called; bytes = written })
+
+named : (called journal written text : List ℕ) → called ≡ journal → written ≡ text → file_named called written ≡ file_named journal text
+named called journal written text name bytes = rw (name, bytes) refl
+
+-- all that was rehearsed and written is the answer
+pub answered : (test : RateTest) (entries : Option ℕ) (limit iteration : ℕ) (journal called : List ℕ) (seen played : PlanView) (history : HistoryView) (lacked : Option FullJournal)
+    (written summary : List ℕ) → limit ≡ entry_limit entries → played ≡ seen → IsPlanOf test limit seen → IsAccepted test limit → IsRehearsed seen.plan iteration history.entries →
+    FirstRefusal seen.plan history.entries (option_map full_reply lacked) → (lacked ≡ None → IsSettled seen.plan history.entries) → (lacked ≡ None → IsTrue (nothing_late history.entries)) →
+    called ≡ journal → written ≡ journal_text (header_of test limit) history.entries → summary ≡ summary_text (played ∷ []) (history ∷ []) →
+    IsRehearsalAnswer test (entry_limit entries) iteration journal (record { file = Some (record { name = called; bytes = written }); text = summary; full = lacked })
+answered test entries limit iteration journal called seen played history lacked written summary most same is accepted rehearsed first settled in_time name bytes text =
+    let answer : Answer = record { file = Some (record { name = called; bytes = written }); text = summary; full = lacked } in
+    subst (λ (n : ℕ). IsRehearsalAnswer test n iteration journal answer) most
+    (record {
+      seen = seen;
+      is_plan = is;
+      accepted = accepted;
+      history = history;
+      rehearsed = rehearsed;
+      first = first;
+      settled = settled;
+      in_time = in_time;
+      file = named called journal written (journal_text (header_of test limit) history.entries) name bytes;
+      text = text ∙ ap (λ (p : PlanView). summary_text (p ∷ []) (history ∷ [])) same;
+    })
