@@ -2,7 +2,7 @@
 //! ends with the command's status.
 #![tactic(auto)]
 
-use ld_outside::{ErrSink, OutSink, Sink, put_all};
+use ld_outside::{ErrSink, FileShelf, OutSink, Sink, put_all};
 use ld_run::command;
 use std::env::Env;
 use std::io::ErrorKind;
@@ -11,10 +11,11 @@ use std::{env, io};
 
 fn main(rt: HostRuntime) -> ExitCode {
     let stderr = rt.stderr();
+    let mut shelf = FileShelf::new(&rt);
     let mut out = OutSink::new(&rt);
     let mut err = ErrSink::new(&stderr);
     let status = match words(&rt) {
-        Ok(words) => command(&rt, &words, &mut out, &mut err),
+        Ok(words) => command(&rt, &words, &mut shelf, &mut out, &mut err),
         Err(error) if error.kind() == ErrorKind::InvalidData => refuse(
             &mut err,
             b"error words 0\n",

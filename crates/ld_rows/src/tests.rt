@@ -1,0 +1,6 @@
+mod desk;
+mod faults;
+mod refusals;
+mod rehearsals;
+mod stripes;
+mod words;

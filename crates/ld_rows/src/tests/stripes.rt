@@ -1,0 +1,161 @@
+// Striping.
+
+use crate::tests::desk::{Row, check};
+use std::alloc::{AllocError, Global};
+use std::process::Abort;
+use std::test::Fail;
+
+// Carries out the command of a line, which writes no file, and compares what it gives.
+fn check_line<'a, R: AllocGlobal + Abort>(
+    rt: &R,
+    line: &'a str,
+    status: u8,
+    out: &'a str,
+    err: &'a str,
+) -> Result<(), Fail> {
+    let row = Row {
+        line,
+        status,
+        out,
+        err,
+        journal: None,
+    };
+    check(rt, &row)
+}
+
+/// `stripe` over weights.
+#[test]
+fn weights(rt: HostRuntime) -> Result<(), Fail> {
+    let table = [
+        ("stripe 3,2,1,1,1,1,1 0 10", 0, "0 4 7\n", ""),
+        ("stripe 3,2,1,1,1,1,1 1 10", 0, "1 5\n", ""),
+        ("stripe 3,2,1,1,1,1,1 6 10", 0, "9\n", ""),
+        ("stripe 2,1,3 2 6", 0, "0 2 4\n", ""),
+        ("stripe 2,1,3 0 6", 0, "1 3\n", ""),
+        ("stripe 2,1,3 1 6", 0, "5\n", ""),
+        ("stripe 1,1 1 0", 0, "\n", ""),
+        ("stripe 2,2 1 4", 0, "1 3\n", ""),
+        ("stripe 007 000 0003", 0, "0 1 2\n", ""),
+        ("stripe 1,0 0 5", 5, "", "error 21 ZeroWeight 1\n"),
+        ("stripe 3,1 2 5", 5, "", "error 22 NoSuchPosition 2\n"),
+        ("stripe 100000,1,0 9 1", 5, "", "error 21 ZeroWeight 2\n"),
+        ("stripe 99999,1 1 1", 0, "\n", ""),
+        ("strip 1 0 1", 2, "", "error words 0\n"),
+        ("--help", 2, "", "error words 0\n"),
+        ("stripe", 2, "", "error words 1\n"),
+        ("stripe x 0 5", 2, "", "error words 1\n"),
+        ("stripe 6 --sequence", 2, "", "error words 3\n"),
+    ];
+    for (line, status, out, err) in table {
+        check_line(&rt, line, status, out, err)?;
+    }
+    Ok(())
+}
+
+/// `stripe` over a segment and a sequence.
+#[test]
+fn segments(rt: HostRuntime) -> Result<(), Fail> {
+    let table = [
+        (
+            "stripe 6 --sequence 0,1/3,0.5 --segment 1/3:50%",
+            0,
+            "sequence 0,1/3,1/2,1\n5\n",
+            "",
+        ),
+        (
+            "stripe 8 --segment 1/4:1/2",
+            0,
+            "sequence 0,1/4,1/2,1\n3 7\n",
+            "",
+        ),
+        ("stripe 3 --segment=1", 0, "sequence 0,1\n0 1 2\n", ""),
+        ("stripe 0 --sequence 0,1", 0, "sequence 0,1\n\n", ""),
+        (
+            "stripe 4 --sequence 0,1/2,1",
+            5,
+            "",
+            "error 15 NotInSequence\n",
+        ),
+        ("stripe 4 --segment 1/2:1/2", 5, "", "error 11 NotLess 1\n"),
+        ("stripe 4 --segment 0:101%", 5, "", "error 12 AboveOne 1\n"),
+        (
+            "stripe 4 --segment 0:1/0",
+            5,
+            "",
+            "error 3 ZeroDenominator 1\n",
+        ),
+        (
+            "stripe 4 --segment x --sequence y",
+            5,
+            "",
+            "error 2 BadDigit 1\n",
+        ),
+        (
+            "stripe 4 --segment 1: --sequence y",
+            5,
+            "",
+            "error 1 Empty 1\n",
+        ),
+        (
+            "stripe 4 --sequence 0,1234567890",
+            5,
+            "",
+            "error 4 TooLarge 1\n",
+        ),
+        (
+            "stripe 4 --sequence 0,-1/2,1",
+            5,
+            "",
+            "error 10 BelowZero 1\n",
+        ),
+        ("stripe 4 --sequence 1/2", 5, "", "error 14 FewPoints\n"),
+        (
+            "stripe 4 --segment 1/2 --sequence 1/3,1/100001",
+            5,
+            "",
+            "error 11 NotLess 1\n",
+        ),
+        (
+            "stripe 4 --segment 1/2 --sequence 0,1/100001,1",
+            5,
+            "",
+            "error 15 NotInSequence\n",
+        ),
+        (
+            "stripe 4 --segment 1/100001",
+            5,
+            "",
+            "error 16 PeriodTooLarge 100001\n",
+        ),
+        (
+            "stripe 4 --sequence 1/999999937,1/999999929,1/999999893 --segment 1/999999937:1/999999929",
+            5,
+            "",
+            "error 16 PeriodTooLarge 18446744073709551615\n",
+        ),
+    ];
+    for (line, status, out, err) in table {
+        check_line(&rt, line, status, out, err)?;
+    }
+    Ok(())
+}
+
+// A line of `stripe` over so many weights, of which all but the last are 1.
+fn line_of_weights(alloc: Global, ones: usize, last: &str) -> Result<String, AllocError> {
+    let mut line = String::from_str(alloc, "stripe ")?;
+    for _ in 0..ones {
+        line.push_str("1,")?;
+    }
+    line.push_str(last)?;
+    line.push_str(" 0 1")?;
+    Ok(line)
+}
+
+/// As many weights as there may be, and one more.
+#[test]
+fn at_most_a_hundred_weights(rt: HostRuntime) -> Result<(), Fail> {
+    let line = line_of_weights(rt.alloc(), 99, "1")?;
+    check_line(&rt, line.as_str(), 0, "0\n", "")?;
+    let line = line_of_weights(rt.alloc(), 100, "0")?;
+    check_line(&rt, line.as_str(), 5, "", "error 17 TooMany\n")
+}
