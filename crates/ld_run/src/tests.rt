@@ -1,5 +1,6 @@
 use super::*;
-use ld_outside::{Files, MemSink, Numbers, SureShelf, SureSink};
+use ld_base::BaseFault;
+use ld_outside::{Files, SureShelf, SureSink};
 use std::alloc::{AllocError, Global};
 use std::process::Abort;
 use std::test::Fail;
@@ -12,7 +13,8 @@ fn split(alloc: Global, words: &str) -> Result<Vec<String>, AllocError> {
     Ok(list)
 }
 
-/// Carries out the command of these words, and compares the status and the bytes on the two sinks.
+/// Carries out the command of these words, by either call, and compares the status and the bytes on the
+/// two sinks.
 fn check<R: AllocGlobal + Abort>(
     rt: &R,
     line: &str,
@@ -21,129 +23,41 @@ fn check<R: AllocGlobal + Abort>(
     said: &str,
 ) -> Result<(), AllocError> {
     let words = split(rt.alloc(), line)?;
-    let mut out = SureSink::new(rt.alloc());
-    let mut err = SureSink::new(rt.alloc());
-    let mut shelf = no_files(rt.alloc());
-    assert_eq!(rt;
-        command(rt, &words, &mut shelf, &mut out, &mut err),
-        status,
-        "{line}"
-    );
-    assert!(rt; out.taken() == text.as_bytes(), "{line}");
-    assert!(rt; err.taken() == said.as_bytes(), "{line}");
-    Ok(())
-}
-
-#[test]
-fn stripe_answers(rt: HostRuntime) -> Result<(), Fail> {
-    let table = [
-        ("stripe 3,2,1,1,1,1,1 0 10", 0, "0 4 7\n", ""),
-        ("stripe 3,2,1,1,1,1,1 1 10", 0, "1 5\n", ""),
-        ("stripe 3,2,1,1,1,1,1 6 10", 0, "9\n", ""),
-        ("stripe 2,1,3 2 6", 0, "0 2 4\n", ""),
-        ("stripe 2,1,3 0 6", 0, "1 3\n", ""),
-        ("stripe 2,1,3 1 6", 0, "5\n", ""),
-        ("stripe 1,1 1 0", 0, "\n", ""),
-        ("stripe 2,2 1 4", 0, "1 3\n", ""),
-        ("stripe 007 000 0003", 0, "0 1 2\n", ""),
-        ("stripe 1,0 0 5", 5, "", "error 21 ZeroWeight 1\n"),
-        ("stripe 3,1 2 5", 5, "", "error 22 NoSuchPosition 2\n"),
-        ("stripe 100000,1,0 9 1", 5, "", "error 21 ZeroWeight 2\n"),
-        ("stripe 99999,1 1 1", 0, "\n", ""),
-        ("", 2, "", "error words 0\n"),
-        ("strip 1 0 1", 2, "", "error words 0\n"),
-        ("--help", 2, "", "error words 0\n"),
-        ("stripe", 2, "", "error words 1\n"),
-        ("stripe x 0 5", 2, "", "error words 1\n"),
-        ("stripe 6 --sequence", 2, "", "error words 3\n"),
-    ];
-    for (line, status, text, said) in table {
-        check(&rt, line, status, text, said)?;
+    for waits in [false, true] {
+        let mut shelf = SureShelf::new(rt.alloc(), Files::of(Vec::new(rt.alloc())));
+        let mut out = SureSink::new(rt.alloc());
+        let mut err = SureSink::new(rt.alloc());
+        let answered = if waits {
+            command(rt, &words, &mut shelf, &mut out, &mut err)
+        } else {
+            desk_command(rt, &words, &mut shelf, &mut out, &mut err)
+        };
+        assert_eq!(rt; answered, status, "{line}");
+        assert!(rt; out.taken() == text.as_bytes(), "{line}");
+        assert!(rt; err.taken() == said.as_bytes(), "{line}");
     }
     Ok(())
 }
 
-/// `stripe` over a segment and a sequence.
+/// Each form once, and each kind of refusal. The worked examples stand in `ld_rows`.
 #[test]
-fn stripe_cuts(rt: HostRuntime) -> Result<(), Fail> {
+fn answers_words(rt: HostRuntime) -> Result<(), Fail> {
     let table = [
-        (
-            "stripe 6 --sequence 0,1/3,0.5 --segment 1/3:50%",
-            0,
-            "sequence 0,1/3,1/2,1\n5\n",
-            "",
-        ),
+        ("stripe 3,2,1,1,1,1,1 0 10", 0, "0 4 7\n", ""),
         (
             "stripe 8 --segment 1/4:1/2",
             0,
             "sequence 0,1/4,1/2,1\n3 7\n",
             "",
         ),
-        ("stripe 3 --segment=1", 0, "sequence 0,1\n0 1 2\n", ""),
-        ("stripe 0 --sequence 0,1", 0, "sequence 0,1\n\n", ""),
         (
-            "stripe 4 --sequence 0,1/2,1",
-            5,
+            "rehearse --rate 2 --unit 1s --duration 1s --pre 1 --max 2 --iteration 1s --journal j",
+            0,
+            "users 1 2\nscenario main planned 2 started 2 done 2 interrupted 0 dropped 0 late 0\n",
             "",
-            "error 15 NotInSequence\n",
         ),
-        ("stripe 4 --segment 1/2:1/2", 5, "", "error 11 NotLess 1\n"),
-        ("stripe 4 --segment 0:101%", 5, "", "error 12 AboveOne 1\n"),
-        (
-            "stripe 4 --segment 0:1/0",
-            5,
-            "",
-            "error 3 ZeroDenominator 1\n",
-        ),
-        (
-            "stripe 4 --segment x --sequence y",
-            5,
-            "",
-            "error 2 BadDigit 1\n",
-        ),
-        (
-            "stripe 4 --segment 1: --sequence y",
-            5,
-            "",
-            "error 1 Empty 1\n",
-        ),
-        (
-            "stripe 4 --sequence 0,1234567890",
-            5,
-            "",
-            "error 4 TooLarge 1\n",
-        ),
-        (
-            "stripe 4 --sequence 0,-1/2,1",
-            5,
-            "",
-            "error 10 BelowZero 1\n",
-        ),
-        ("stripe 4 --sequence 1/2", 5, "", "error 14 FewPoints\n"),
-        (
-            "stripe 4 --segment 1/2 --sequence 1/3,1/100001",
-            5,
-            "",
-            "error 11 NotLess 1\n",
-        ),
-        (
-            "stripe 4 --segment 1/2 --sequence 0,1/100001,1",
-            5,
-            "",
-            "error 15 NotInSequence\n",
-        ),
-        (
-            "stripe 4 --segment 1/100001",
-            5,
-            "",
-            "error 16 PeriodTooLarge 100001\n",
-        ),
-        (
-            "stripe 4 --sequence 1/999999937,1/999999929,1/999999893 --segment 1/999999937:1/999999929",
-            5,
-            "",
-            "error 16 PeriodTooLarge 18446744073709551615\n",
-        ),
+        ("stripe 1,0 0 5", 5, "", "error 21 ZeroWeight 1\n"),
+        ("strip 1 0 1", 2, "", "error words 0\n"),
     ];
     for (line, status, text, said) in table {
         check(&rt, line, status, text, said)?;
@@ -151,70 +65,12 @@ fn stripe_cuts(rt: HostRuntime) -> Result<(), Fail> {
     Ok(())
 }
 
-/// As many weights as there may be, one more, and none.
+/// A refusal tells its status and its line.
 #[test]
-fn at_most_a_hundred_weights(rt: HostRuntime) -> Result<(), Fail> {
-    let mut weights = String::from_str(rt.alloc(), "1")?;
-    for _ in 0..99 {
-        weights.push_str(",1")?;
-    }
-    check_weights(&rt, weights.as_str(), 0, "0\n")?;
-    weights.push_str(",0")?;
-    check_weights(&rt, weights.as_str(), 5, "error 17 TooMany\n")?;
-    check_weights(&rt, "", 5, "error 20 NoWeights\n")?;
+fn tells_a_refusal(rt: HostRuntime) -> Result<(), BaseFault> {
+    let refusal = Refusal::NoSuchPosition(2);
+    assert_eq!(rt; refusal.status(), 5);
+    let line = refusal.line(rt.alloc())?;
+    assert_eq!(rt; line.as_slice(), "error 22 NoSuchPosition 2\n".as_bytes());
     Ok(())
-}
-
-// Carries out `stripe WEIGHTS 0 1`, and compares the status and the text on either sink.
-fn check_weights<R: AllocGlobal + Abort>(
-    rt: &R,
-    weights: &str,
-    status: u8,
-    text: &str,
-) -> Result<(), AllocError> {
-    let mut words = split(rt.alloc(), "stripe")?;
-    words.push(String::from_str(rt.alloc(), weights)?)?;
-    words.push(String::from_str(rt.alloc(), "0")?)?;
-    words.push(String::from_str(rt.alloc(), "1")?)?;
-    let mut out = SureSink::new(rt.alloc());
-    let mut err = SureSink::new(rt.alloc());
-    let mut shelf = no_files(rt.alloc());
-    assert_eq!(rt; command(rt, &words, &mut shelf, &mut out, &mut err), status);
-    let taken = if status == 0 {
-        out.taken()
-    } else {
-        err.taken()
-    };
-    assert_eq!(rt; taken, text.as_bytes());
-    Ok(())
-}
-
-/// Sinks whose first call fails.
-#[test]
-fn sinks_that_fail(rt: HostRuntime) -> Result<(), Fail> {
-    for (line, status, said) in [("stripe 1 0 3", 4, "error write\n"), ("stripe", 2, "")] {
-        let words = split(rt.alloc(), line)?;
-        let mut out = MemSink::new(rt.alloc(), first_call(rt.alloc())?);
-        let mut err = MemSink::new(rt.alloc(), Numbers::of(Vec::new(rt.alloc())));
-        if status == 2 {
-            err = MemSink::new(rt.alloc(), first_call(rt.alloc())?);
-        }
-        let mut shelf = no_files(rt.alloc());
-        assert_eq!(rt;
-            command(&rt, &words, &mut shelf, &mut out, &mut err),
-            status
-        );
-        assert!(rt; out.taken().is_empty());
-        assert_eq!(rt; err.taken(), said.as_bytes());
-    }
-    Ok(())
-}
-
-// A shelf without files.
-fn no_files(alloc: Global) -> SureShelf {
-    SureShelf::new(alloc, Files::of(Vec::new(alloc)))
-}
-
-fn first_call(alloc: Global) -> Result<Numbers, AllocError> {
-    Ok(Numbers::of(Vec::from_slice(alloc, &[1])?))
 }
