@@ -90,12 +90,7 @@ fn put_start(
 }
 
 // Appends the words of an act by which an item is given up.
-fn put_given_up(
-    name: &[u8],
-    scenario: u16,
-    item: u64,
-    into: &mut Vec<u8>,
-) -> Result<(), BaseFault>
+fn put_given_up(name: &[u8], scenario: u16, item: u64, into: &mut Vec<u8>) -> Result<(), BaseFault>
     ensures ok { OnOk result (into.new.items ≡ into.old.items ++ joined (name.now ∷ decimal scenario ∷ decimal item ∷ [])) }
     ensures err { OnErr result (Grows into.old.items into.new.items) }
 {
