@@ -1,5 +1,5 @@
 // The words of one act.
-ghost use Rattle.std.specs.Prelude.{◌≡◌, ◌++◌, ◌∷◌, codes, OnErr, OnOk};
+ghost use Rattle.std.specs.Prelude.{◌≡◌, ◌++◌, ◌∷◌, [], codes, decimal, OnErr, OnOk};
 ghost use Rattle.ld_line.specs.Line.{Grows, joined, word_text};
 ghost use Rattle.ld_journal.specs.Journal.{act_words, command_words, flag_word, outcome_word};
 
@@ -16,95 +16,141 @@ pub fn put_act(act: &Act, into: &mut Vec<u8>) -> Result<(), BaseFault>
             scenario,
             user,
             slot,
-        } => put_words(
-            into,
-            &[
-                Word::Text(b"take"),
-                Word::Number(*scenario as u64),
-                Word::Number(*user as u64),
-                Word::Number(*slot as u64),
-            ],
-        ),
+        } => put_held(b"take", *scenario, *user, *slot, into),
         Act::Grow {
             scenario,
             user,
             slot,
-        } => put_words(
-            into,
-            &[
-                Word::Text(b"grow"),
-                Word::Number(*scenario as u64),
-                Word::Number(*user as u64),
-                Word::Number(*slot as u64),
-            ],
-        ),
+        } => put_held(b"grow", *scenario, *user, *slot, into),
         Act::Start {
             scenario,
             user,
             item,
             until,
-        } => put_words(
-            into,
-            &[
-                Word::Text(b"start"),
-                Word::Number(*scenario as u64),
-                Word::Number(*user as u64),
-                Word::Number(*item),
-                Word::Number(*until),
-            ],
-        ),
-        Act::Drop { scenario, item } => put_words(
-            into,
-            &[
-                Word::Text(b"drop"),
-                Word::Number(*scenario as u64),
-                Word::Number(*item),
-            ],
-        ),
-        Act::Late { scenario, item } => put_words(
-            into,
-            &[
-                Word::Text(b"late"),
-                Word::Number(*scenario as u64),
-                Word::Number(*item),
-            ],
-        ),
+        } => put_start(*scenario, *user, *item, *until, into),
+        Act::Drop { scenario, item } => put_given_up(b"drop", *scenario, *item, into),
+        Act::Late { scenario, item } => put_given_up(b"late", *scenario, *item, into),
         Act::Return {
             scenario,
             user,
             item,
             outcome,
             tally,
-        } => put_words(
-            into,
-            &[
-                Word::Text(b"return"),
-                Word::Number(*scenario as u64),
-                Word::Number(*user as u64),
-                Word::Number(*item),
-                outcome_word(*outcome),
-                Word::Number(tally.len() as u64),
-            ],
-        ),
-        Act::Release { scenario, user } => put_words(
-            into,
-            &[
-                Word::Text(b"release"),
-                Word::Number(*scenario as u64),
-                Word::Number(*user as u64),
-            ],
-        ),
-        Act::Stop { scenario } => {
-            put_words(into, &[Word::Text(b"stop"), Word::Number(*scenario as u64)])
-        }
-        Act::Close { scenario } => {
-            put_words(
-                into,
-                &[Word::Text(b"close"), Word::Number(*scenario as u64)],
-            )
-        }
+        } => put_return(*scenario, *user, *item, *outcome, tally.len(), into),
+        Act::Release { scenario, user } => put_release(*scenario, *user, into),
+        Act::Stop { scenario } => put_ended(b"stop", *scenario, into),
+        Act::Close { scenario } => put_ended(b"close", *scenario, into),
         Act::Control { command } => put_command(*command, into),
     }
+}
+
+// Appends the words of an act by which a scenario holds one user more.
+fn put_held(
+    name: &[u8],
+    scenario: u16,
+    user: u32,
+    slot: u32,
+    into: &mut Vec<u8>,
+) -> Result<(), BaseFault>
+    ensures ok { OnOk result (into.new.items ≡ into.old.items ++ joined (name.now ∷ decimal scenario ∷ decimal user ∷ decimal slot ∷ [])) }
+    ensures err { OnErr result (Grows into.old.items into.new.items) }
+{
+    put_words(
+        into,
+        &[
+            Word::Text(name),
+            Word::Number(scenario as u64),
+            Word::Number(user as u64),
+            Word::Number(slot as u64),
+        ],
+    )
+}
+
+// Appends the words of a Start.
+fn put_start(
+    scenario: u16,
+    user: u32,
+    item: u64,
+    until: u64,
+    into: &mut Vec<u8>,
+) -> Result<(), BaseFault>
+    ensures ok { OnOk result (into.new.items ≡ into.old.items ++ joined (act_words (Act.Start scenario user item until))) }
+    ensures err { OnErr result (Grows into.old.items into.new.items) }
+{
+    put_words(
+        into,
+        &[
+            Word::Text(b"start"),
+            Word::Number(scenario as u64),
+            Word::Number(user as u64),
+            Word::Number(item),
+            Word::Number(until),
+        ],
+    )
+}
+
+// Appends the words of an act by which an item is given up.
+fn put_given_up(name: &[u8], scenario: u16, item: u64, into: &mut Vec<u8>) -> Result<(), BaseFault>
+    ensures ok { OnOk result (into.new.items ≡ into.old.items ++ joined (name.now ∷ decimal scenario ∷ decimal item ∷ [])) }
+    ensures err { OnErr result (Grows into.old.items into.new.items) }
+{
+    put_words(
+        into,
+        &[
+            Word::Text(name),
+            Word::Number(scenario as u64),
+            Word::Number(item),
+        ],
+    )
+}
+
+// Appends the words of a Return with so many samples.
+fn put_return(
+    scenario: u16,
+    user: u32,
+    item: u64,
+    outcome: Outcome,
+    samples: u32,
+    into: &mut Vec<u8>,
+) -> Result<(), BaseFault>
+    ensures ok { OnOk result (into.new.items ≡ into.old.items
+        ++ joined (codes "return" ∷ decimal scenario ∷ decimal user ∷ decimal item ∷ outcome_word outcome ∷ decimal samples ∷ [])) }
+    ensures err { OnErr result (Grows into.old.items into.new.items) }
+{
+    put_words(
+        into,
+        &[
+            Word::Text(b"return"),
+            Word::Number(scenario as u64),
+            Word::Number(user as u64),
+            Word::Number(item),
+            outcome_word(outcome),
+            Word::Number(samples as u64),
+        ],
+    )
+}
+
+// Appends the words of a Release.
+fn put_release(scenario: u16, user: u32, into: &mut Vec<u8>) -> Result<(), BaseFault>
+    ensures ok { OnOk result (into.new.items ≡ into.old.items ++ joined (act_words (Act.Release scenario user))) }
+    ensures err { OnErr result (Grows into.old.items into.new.items) }
+{
+    put_words(
+        into,
+        &[
+            Word::Text(b"release"),
+            Word::Number(scenario as u64),
+            Word::Number(user as u64),
+        ],
+    )
+}
+
+// Appends the words of an act that ends a scenario's work.
+fn put_ended(name: &[u8], scenario: u16, into: &mut Vec<u8>) -> Result<(), BaseFault>
+    ensures ok { OnOk result (into.new.items ≡ into.old.items ++ joined (name.now ∷ decimal scenario ∷ [])) }
+    ensures err { OnErr result (Grows into.old.items into.new.items) }
+{
+    put_words(into, &[Word::Text(name), Word::Number(scenario as u64)])
 }
 
 // Appends the words of a command.

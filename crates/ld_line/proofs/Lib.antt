@@ -1,3 +1,4 @@
 mod WordLemmas
 pub mod LineLemmas
 pub mod FeedLemmas
+mod AgainLemmas
