@@ -1,3 +1,4 @@
 pub mod Codes
 pub mod Document
+pub mod Node
 pub mod Pointer

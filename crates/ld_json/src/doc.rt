@@ -1,9 +1,11 @@
-ghost use Rattle.std.specs.Prelude.{◌≡◌, IfErr, IfOk, ⊤};
+ghost use Rattle.std.specs.Prelude.{◌≡◌, [], IfErr, IfOk};
 ghost use Rattle.ld_json.specs.Document.{IsDocument};
 ghost use Rattle.ld_json.specs.declared.fault.JsonFault.TheVariants.{Memory, NotJson};
 ghost use Rattle.serde_json.specs.Data.{Data};
 
 use crate::fault::JsonFault;
+use crate::node::Node;
+use crate::path::Path;
 use crate::whole::is_whole;
 use serde_json::Value;
 use std::alloc::Global;
@@ -48,5 +50,12 @@ impl Doc {
             return Err(JsonFault::NotJson);
         }
         Ok(Doc { value, alloc })
+    }
+
+    /// The document's whole value, at the path of the root. Takes no memory.
+    pub fn root(&self) -> Node<'_>
+        ensures { result ≡ record { value = self.now; path = [] } }
+    {
+        Node::of(&self.value, Path::root(self.alloc))
     }
 }

@@ -3,9 +3,11 @@
 
 mod doc;
 mod fault;
+mod node;
 mod path;
 mod whole;
 
 pub use doc::Doc;
 pub use fault::JsonFault;
+pub use node::Node;
 pub use path::Path;
