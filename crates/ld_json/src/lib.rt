@@ -3,7 +3,9 @@
 
 mod doc;
 mod fault;
+mod known;
 mod node;
+mod parts;
 mod path;
 mod whole;
 
@@ -11,3 +13,6 @@ pub use doc::Doc;
 pub use fault::JsonFault;
 pub use node::Node;
 pub use path::Path;
+
+#[cfg(test)]
+mod tests;

@@ -1,8 +1,10 @@
-ghost use Rattle.std.specs.Prelude.{◌≡◌, Ok};
+ghost use Rattle.std.specs.Prelude.{◌≡◌, Err, IfErr, IfOk, IsErrOf, Ok};
 ghost use Rattle.ld_json.specs.declared.fault.JsonFault.TheVariants.{Memory, WrongKind};
 ghost use Rattle.serde_json.specs.Find.{as_bool, as_str};
 
 use crate::fault::JsonFault;
+use crate::known::{first_unknown, pieces};
+use crate::parts::{elements, members};
 use crate::path::Path;
 use ld_base::Text;
 use serde_json::Value;
@@ -28,7 +30,8 @@ impl<'a> Model for Node<'a> {
 }
 
 impl<'a> Node<'a> {
-    ghost use Rattle.ld_json.specs.Node.{Answers, as_whole, needed, of_kind, wanted};
+    ghost use Rattle.ld_json.specs.Known.{allowed};
+    ghost use Rattle.ld_json.specs.Node.{Answers, HasOrder, as_whole, listed, needed, of_kind, paired, wanted};
     ghost use Rattle.ld_json.specs.Pointer.{member_path};
     ghost use Rattle.serde_json.specs.View.{view as data_of};
 
@@ -114,6 +117,51 @@ impl<'a> Node<'a> {
         match self.value.as_bool() {
             Some(flag) => Ok(flag),
             None => Err(self.wrong_kind(alloc)),
+        }
+    }
+
+    /// The elements of the list that the value is, in order.
+    ///
+    /// Fails as `WrongKind` where it is no list, and where memory is missing.
+    pub fn list(&self, alloc: Global) -> Result<Vec<Node<'_>>, JsonFault>
+        ensures ok { IfOk result (λ nodes. listed self.now ≡ Ok nodes.items) }
+        ensures err { IfErr result (λ fault. (fault ≡ Memory → ⊥) → listed self.now ≡ Err fault) }
+    {
+        match self.value.as_array() {
+            Some(items) => Ok(elements(alloc, &self.path, items)?),
+            None => Err(self.wrong_kind(alloc)),
+        }
+    }
+
+    /// The members of the object that the value is, each with its name, in byte order of names.
+    ///
+    /// Fails as `WrongKind` where it is no object, and where memory is missing.
+    pub fn pairs(&self, alloc: Global) -> Result<Vec<(Text, Node<'_>)>, JsonFault>
+        ensures ok { IfOk result (λ pairs. paired self.now ≡ Ok pairs.items) }
+        ensures err { IfErr result (λ fault. (fault ≡ Memory → ⊥) → paired self.now ≡ Err fault) }
+        ensures order { HasOrder self.now.value }
+    {
+        match self.value.as_object() {
+            Some(list) => Ok(members(alloc, &self.path, list)?),
+            None => Err(self.wrong_kind(alloc)),
+        }
+    }
+
+    /// Refuses members of other names than those that stand in `names` between its spaces.
+    ///
+    /// Fails as `WrongKind` where the value is no object, as `Unknown`, with the path of the first
+    /// such member in byte order of names, where there is one, and where memory is missing.
+    pub fn only(&self, alloc: Global, names: &str) -> Result<(), JsonFault>
+        ensures answer { Answers result (allowed self.now names.now) }
+        ensures order { (IsErrOf result Memory → ⊥) → HasOrder self.now.value }
+    {
+        let Some(list) = self.value.as_object() else {
+            return Err(self.wrong_kind(alloc));
+        };
+        let known = pieces(alloc, names)?;
+        match first_unknown(list, known.as_slice()) {
+            Some(name) => Err(JsonFault::Unknown(self.path_of(alloc, name)?)),
+            None => Ok(()),
         }
     }
 
