@@ -28,7 +28,9 @@ impl Path {
     pub(crate) fn root(alloc: Global) -> Path
         ensures { result ≡ [] }
     {
-        Path { bytes: Vec::new(alloc) }
+        Path {
+            bytes: Vec::new(alloc),
+        }
     }
 
     /// The bytes of the path's text, lent. Takes no memory.
