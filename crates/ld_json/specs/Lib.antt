@@ -1,0 +1,5 @@
+pub mod Codes
+pub mod Document
+pub mod Known
+pub mod Node
+pub mod Pointer
