@@ -1,9 +1,8 @@
 -- What an object with a member of an unknown name is answered.
-use Rattle.std.proofs.Common.{◌≡◌, List, ℕ, Some, Ok, Err, refl, Result, ap}
+use Rattle.std.proofs.Common.{◌≡◌, List, ℕ, Some, Err, refl}
 use Rattle.ld_json.specs.Known.{allowed, first_unknown, pieces}
 use Rattle.ld_json.specs.Node.{NodeView}
 use Rattle.ld_json.specs.Pointer.{member_path}
-use Rattle.ld_json.specs.declared.fault.JsonFault.{JsonFault}
 use Rattle.ld_json.specs.declared.fault.JsonFault.TheVariants.{Unknown}
 use Rattle.serde_json.specs.Data.{Members}
 use Rattle.serde_json.specs.Find.{as_object}

@@ -1,7 +1,7 @@
 -- How the logic stores the data of a document: as a tree of numbers that gives it back.
-use Rattle.std.proofs.Common.{◌≡◌, ℕ, Bool, ℤ, List, refl, ap, true≢false}
-use Rattle.std.specs.Prelude.{nat_eq, Float}
-use Rattle.std.specs.Coded.{Coded, coded×, coded_ℕ, coded_ℤ, coded_bool, coded_list}
+use Rattle.std.proofs.Common.{◌≡◌, ℕ, List, refl, ap, true≢false}
+use Rattle.std.specs.Prelude.{nat_eq}
+use Rattle.std.specs.Coded.{Coded, coded_ℕ, coded_ℤ, coded_bool, coded_list}
 use base.Stored.{Gv, gnil, gnum, gcons, num, coded_float}
 use Rattle.serde_json.specs.Data.{Num, unsigned, negative, float, Data, null, boolean, number, string, array, object, Items, no_items, item, Members, no_members, member}
 

@@ -1,5 +1,5 @@
 -- What a value of a document holds, and what the calls of a node answer, want of memory aside.
-use Rattle.std.specs.Prelude.{◌≡◌, ℕ, ◌+◌, List, [], ◌∷◌, Bool, Option, Some, None, Result, Ok, Err, IfOk, IfErr, ok_or, option_map, option_and_then, refl}
+use Rattle.std.specs.Prelude.{◌≡◌, ℕ, ◌+◌, List, [], ◌∷◌, Option, Some, Result, Ok, Err, IfOk, IfErr, ok_or, option_map, option_and_then, refl}
 use Rattle.std.specs.Coded.{Coded, code_by, coded×, coded_ℕ, coded_list}
 use Rattle.std.specs.Cmp.Lexicographic.{slice_cmp}
 use Rattle.std.specs.List.Sorted.{IsStrictlySortedBy}
@@ -8,7 +8,7 @@ use Rattle.std.specs.Result.{result_and}
 use Rattle.ld_json.specs.Codes.{coded_data}
 use Rattle.ld_json.specs.Pointer.{member_path, item_path}
 use Rattle.ld_json.specs.declared.fault.JsonFault.{JsonFault}
-use Rattle.ld_json.specs.declared.fault.JsonFault.TheVariants.{Memory, Missing, WrongKind, Unknown}
+use Rattle.ld_json.specs.declared.fault.JsonFault.TheVariants.{Memory, Missing, WrongKind}
 use Rattle.serde_json.specs.Data.{Data, Items, no_items, item, Members, no_members, member}
 use Rattle.serde_json.specs.Find.{get, as_object, as_array, as_number, as_u64}
 
