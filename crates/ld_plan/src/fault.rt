@@ -9,10 +9,10 @@ use thiserror::Error;
 #[derive(Debug, Drop, PartialEq, Eq, Error)]
 pub enum PlanFault {
     /// This field is out of its range.
-    #[error("{0} is out of range")]
+    #[error("{} is out of range", .0.path())]
     Range(Field),
     /// This field, `maxVUs`, is below `preAllocatedVUs`.
-    #[error("{0} is below preAllocatedVUs")]
+    #[error("{} is below preAllocatedVUs", .0.path())]
     MaxBelowPre(Field),
     /// The scenario with this number, from 0 in byte order of the names, plans so many arrivals,
     /// which is more than 400,000. The count is 2^64 - 1 where they are more than that.

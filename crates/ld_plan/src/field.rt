@@ -1,5 +1,3 @@
-use std::fmt;
-
 /// A field of the scenario `main`, as k6's option of that name
 /// (<https://grafana.com/docs/k6/latest/using-k6/scenarios/executors/constant-arrival-rate/>).
 #[derive(Clone, Copy, Debug, PartialEq, Eq)]
@@ -31,11 +29,5 @@ impl Field {
             Field::PreAllocatedVus => "/options/scenarios/main/preAllocatedVUs",
             Field::MaxVus => "/options/scenarios/main/maxVUs",
         }
-    }
-}
-
-impl fmt::Display for Field {
-    fn fmt<W: fmt::Write>(&self, f: &mut fmt::Formatter<W>) -> fmt::Result {
-        f.write_str(self.path())
     }
 }
