@@ -3,3 +3,4 @@ pub mod Document
 pub mod Known
 pub mod Node
 pub mod Pointer
+pub mod Rules

@@ -1,0 +1,49 @@
+-- The ranges of the numbers of a scenario.
+use Rattle.std.specs.Prelude.{◌≤◌, ℕ, List}
+use Rattle.std.specs.List.{AllByRecursion}
+use Rattle.ld_options.specs.declared.executor.Executor.{Executor}
+use Rattle.ld_options.specs.declared.executor.Executor.TheVariants.{ConstantArrivals}
+use Rattle.ld_options.specs.declared.scenario.Scenario.{Scenario}
+
+-- a number is neither below the one nor above the other
+pub record IsWithin (least most n : ℕ) : Type 0 where
+  pub at_least : least ≤ n
+  pub at_most : n ≤ most
+
+-- the longest span of time, 30 days, and the longest unit of time, 1 day, in nanoseconds
+abbrev pub longest : ℕ
+longest = 2592000000000000
+
+abbrev pub longest_unit : ℕ
+longest_unit = 86400000000000
+
+-- the most arrivals in a unit of time
+abbrev pub greatest_rate : ℕ
+greatest_rate = 1000000
+
+-- the most users of a scenario
+abbrev pub most_users : ℕ
+most_users = 1000
+
+-- the numbers of a constant rate of arrivals are in their ranges
+pub record AreArrivalsInRange (rate unit duration pre max : ℕ) : Type 0 where
+  pub rates : IsWithin 1 greatest_rate rate
+  pub units : IsWithin 1 longest_unit unit
+  pub durations : IsWithin 1 longest duration
+  pub planned : IsWithin 0 most_users pre
+  pub above_planned : pre ≤ max
+  pub users : IsWithin 1 most_users max
+
+-- the numbers of an executor are in their ranges
+abbrev pub IsInRange : Executor → Type 0
+IsInRange (ConstantArrivals rate unit duration pre max) = AreArrivalsInRange rate unit duration pre max
+
+-- the numbers of a scenario are in their ranges
+pub record IsScenarioInRange (s : Scenario) : Type 0 where
+  pub begin : s.begin ≤ longest
+  pub grace : s.grace ≤ longest
+  pub executor : IsInRange s.executor
+
+-- the numbers of all scenarios are in their ranges
+abbrev pub AreInRange : List Scenario → Type 0
+AreInRange scenarios = AllByRecursion IsScenarioInRange scenarios

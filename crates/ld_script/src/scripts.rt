@@ -1,0 +1,18 @@
+use crate::script::Script;
+use ld_base::Text;
+use std::marker::Model;
+
+/// The scripts of a test, in byte order of their names. They are numbered from 0.
+#[derive(Drop)]
+pub struct Scripts {
+    names: Vec<Text>,
+    scripts: Vec<Script>,
+}
+
+impl Model for Scripts {
+    ghost use Rattle.ld_script.specs.ScriptsView.{ScriptsView};
+
+    ghost Value = { ScriptsView };
+
+    ghost view = { λ s. record { names = s.names.items; scripts = s.scripts.items } };
+}
