@@ -1,5 +1,5 @@
 use crate::script::Script;
-use ld_base::Text;
+use ld_base::{NameSpec, Text};
 use std::marker::Model;
 
 /// The scripts of a test, in byte order of their names. They are numbered from 0.
@@ -7,6 +7,7 @@ use std::marker::Model;
 pub struct Scripts {
     names: Vec<Text>,
     scripts: Vec<Script>,
+    specs: Vec<NameSpec>,
 }
 
 impl Model for Scripts {
@@ -14,5 +15,5 @@ impl Model for Scripts {
 
     ghost Value = { ScriptsView };
 
-    ghost view = { λ s. record { names = s.names.items; scripts = s.scripts.items } };
+    ghost view = { λ s. record { names = s.names.items; scripts = s.scripts.items; specs = s.specs.items } };
 }
