@@ -2,11 +2,16 @@
 #![tactic(auto)]
 
 mod executor;
+mod fault;
+mod fields;
 mod options;
+mod range;
 mod scenario;
 mod scenarios;
+mod times;
 
 pub use executor::Executor;
+pub use fault::OptionsFault;
 pub use options::Options;
 pub use scenario::Scenario;
 pub use scenarios::Scenarios;

@@ -1,0 +1,32 @@
+-- The faults of documents, as faults of options.
+use Rattle.std.specs.Prelude.{◌≡◌, Result, Ok, Err, IfOk, IfErr}
+use Rattle.ld_json.specs.declared.fault.JsonFault.{JsonFault}
+use Rattle.ld_json.specs.declared.fault.JsonFault.TheVariants as json
+use Rattle.ld_options.specs.declared.fault.OptionsFault.{OptionsFault}
+use Rattle.ld_options.specs.declared.fault.OptionsFault.TheVariants.{NotJson, Missing, WrongKind, Unknown, Memory}
+
+-- the result is the answer, unless memory is missing
+abbrev pub Answers : {A : Type 0} → Result A OptionsFault → Result A OptionsFault → Type 0
+Answers result answer = IfOk result (λ x. answer ≡ Ok x) × IfErr result (λ fault. (fault ≡ Memory → ⊥) → answer ≡ Err fault)
+
+-- this answer is refused so
+abbrev pub Refused : {A : Type 0} → Result A OptionsFault → OptionsFault → Type 0
+Refused answer fault = answer ≡ Err fault
+
+-- the same fault of a document
+abbrev pub of_json : JsonFault → OptionsFault
+of_json json.NotJson = NotJson
+of_json (json.Missing path) = Missing path
+of_json (json.WrongKind path) = WrongKind path
+of_json (json.Unknown path) = Unknown path
+of_json json.Memory = Memory
+
+-- the same answer of a node
+abbrev pub of_node : {A : Type 0} → Result A JsonFault → Result A OptionsFault
+of_node (Ok x) = Ok x
+of_node (Err fault) = Err (of_json fault)
+
+-- what follows from a value
+abbrev pub and_then : {A B : Type 0} → (A → Result B OptionsFault) → Result A OptionsFault → Result B OptionsFault
+and_then next (Ok x) = next x
+and_then next (Err fault) = Err fault

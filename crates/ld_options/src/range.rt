@@ -1,0 +1,8 @@
+/// The range of a number, both ends among it.
+#[derive(Clone, Copy, Debug, PartialEq, Eq)]
+pub struct Range {
+    /// The least.
+    pub least: u64,
+    /// The greatest.
+    pub most: u64,
+}
