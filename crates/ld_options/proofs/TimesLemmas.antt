@@ -1,6 +1,6 @@
 -- Spans of time in a document.
 use Rattle.std.proofs.Common.{◌≡◌, ◌≤◌, ◌∙◌, ◌/◌, ◌^◌, ℕ, List, ap, sym, subst, inl, inr, arith}
-use Rattle.std.specs.Prelude.{Option, Result, Ok, sum_by}
+use Rattle.std.specs.Prelude.{◌⊎◌, Option, Result, Ok, sum_by}
 use Rattle.ld_json.specs.Node.{NodeView}
 use Rattle.ld_json.specs.Pointer.{member_path}
 use Rattle.ld_json.specs.Rules.{Accepts}
@@ -9,12 +9,17 @@ use Rattle.ld_num.specs.declared.fault.NumFault.{NumFault}
 use Rattle.ld_num.proofs.DurationLemmas.{one_duration}
 use Rattle.ld_options.specs.Fields.{given}
 use Rattle.ld_options.specs.Ranges.{IsWithin}
+use Rattle.ld_options.proofs.RefusalLemmas.{ok_accepts, ok_same}
+use Rattle.ld_options.specs.Faults.{Refused}
 use Rattle.ld_options.specs.Times.{IsSpan, RefusesSpan, RefusesTime, span_text}
+use Rattle.ld_options.specs.declared.fault.OptionsFault.{OptionsFault}
 use Rattle.ld_options.specs.declared.range.Range.{Range}
 
--- what two answers hold is the same
-pub ok_same : {A E : Type 0} → (x y : A) → ◌≡◌ {A = Result A E} (Ok x) (Ok y) → x ≡ y
-ok_same x y same = cc
+-- an answer that is Ok isn't refused, nor is what it holds
+pub neither : {A : Type 0} → (answer : Result A OptionsFault) (x : A) (Refuses : A → Type 0) → answer ≡ Ok x → (Refuses x → ⊥) →
+    (fault : OptionsFault) → Refused answer fault ⊎ ((y : A) × (answer ≡ Ok y) × Refuses y) → ⊥
+neither answer x Refuses is accepts fault (inl refused) = ok_accepts answer x is fault refused
+neither answer x Refuses is accepts fault (inr r) = accepts (subst Refuses (ok_same r.0 x (sym r.1 ∙ is)) r.2)
 
 -- a text has one length
 pub one_span : (text : List ℕ) (n m : ℕ) → IsSpan text n → IsSpan text m → n ≡ m
@@ -32,6 +37,5 @@ span_accepts range path text n span within unrefused fault (inr r) =
 pub time_accepts : (range : Range) (default : Option (List ℕ)) (node : NodeView) (name text : List ℕ) →
     given span_text default node name ≡ Ok text → Accepts (RefusesSpan range (member_path node.path name) text) →
     Accepts (RefusesTime range default node name)
-time_accepts range default node name text holds accepts fault (inl refused) = absurd cc
-time_accepts range default node name text holds accepts fault (inr r) =
-    accepts fault (subst (λ t. RefusesSpan range (member_path node.path name) t fault) (let same : r.0 ≡ text = cc in same) r.2)
+time_accepts range default node name text holds accepts fault refuses =
+    neither (given span_text default node name) text (λ t. RefusesSpan range (member_path node.path name) t fault) holds (accepts fault) fault refuses.refused

@@ -36,7 +36,7 @@ RefusesSpan range path text fault =
     ⊎ ((n : ℕ) × IsSpan text n × (IsWithin range.least range.most n → ⊥) × (fault ≡ faults.Range path))
 
 -- the field's text is refused, or else its span of time
-abbrev pub RefusesTime : Range → Option (List ℕ) → NodeView → List ℕ → OptionsFault → Type 0
-RefusesTime range default node name fault =
-    Refused (given span_text default node name) fault
-    ⊎ ((text : List ℕ) × (given span_text default node name ≡ Ok text) × RefusesSpan range (member_path node.path name) text fault)
+pub record RefusesTime (range : Range) (default : Option (List ℕ)) (node : NodeView) (name : List ℕ) (fault : OptionsFault) : Type 0 where
+  pub refused :
+      Refused (given span_text default node name) fault
+      ⊎ ((text : List ℕ) × (given span_text default node name ≡ Ok text) × RefusesSpan range (member_path node.path name) text fault)

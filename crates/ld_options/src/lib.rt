@@ -1,9 +1,11 @@
 //! Options: what a test asks for.
 #![tactic(auto)]
 
+mod arrivals;
 mod executor;
 mod fault;
 mod fields;
+mod kind;
 mod options;
 mod range;
 mod scenario;

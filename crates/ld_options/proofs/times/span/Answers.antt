@@ -6,7 +6,8 @@ use Rattle.ld_json.specs.Rules.{Accepts}
 use Rattle.ld_num.specs.Duration.{IsDurationRefusal}
 use Rattle.ld_options.specs.Times.{RefusesSpan}
 use Rattle.ld_options.specs.declared.fault.OptionsFault.TheVariants.{Number}
-use Rattle.ld_options.proofs.TimesLemmas.{ok_same, span_accepts}
+use Rattle.ld_options.proofs.RefusalLemmas.{ok_same}
+use Rattle.ld_options.proofs.TimesLemmas.{span_accepts}
 use Rattle.ld_options.proofs.times.span.Goals as goal
 
 pub returns-in-Ok-clause-accepted : goal.returns-in-Ok-clause-accepted

@@ -1,0 +1,50 @@
+// The kinds of executors.
+ghost use Rattle.std.specs.Prelude.{◌≡◌};
+ghost use Rattle.ld_options.specs.Executors.{fields_of, kind_named, kind_of};
+ghost use Rattle.ld_options.specs.Faults.{Answers};
+
+use crate::fault::OptionsFault;
+use crate::fields::text_given;
+use ld_json::Node;
+use std::alloc::Global;
+
+/// A kind of executor.
+#[derive(Clone, Copy, Debug, PartialEq, Eq)]
+pub(crate) enum Kind {
+    ConstantArrivals,
+}
+
+impl Kind {
+    // The executor that a scenario names.
+    pub(crate) fn of(alloc: Global, node: &Node<'_>) -> Result<Kind, OptionsFault>
+        ensures { Answers result (kind_of node.now) }
+    {
+        let name = text_given(alloc, node, "executor", None)?;
+        match Kind::named(name.as_slice()) {
+            Some(kind) => Ok(kind),
+            None => Err(OptionsFault::BadExecutor(node.path_of(alloc, "executor")?)),
+        }
+    }
+
+    // The executor of this name.
+    fn named(name: &[u8]) -> Option<Kind>
+        ensures { result ≡ kind_named name.now }
+    {
+        if name == b"constant-arrival-rate".as_slice() {
+            Some(Kind::ConstantArrivals)
+        } else {
+            None
+        }
+    }
+
+    // The fields that a scenario may have, between spaces.
+    pub(crate) fn fields(self) -> &'static str
+        ensures { result.now ≡ fields_of self }
+    {
+        match self {
+            Kind::ConstantArrivals => {
+                "executor startTime gracefulStop exec rate timeUnit duration preAllocatedVUs maxVUs"
+            }
+        }
+    }
+}
