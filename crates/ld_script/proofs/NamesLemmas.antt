@@ -1,9 +1,9 @@
 -- Names in a set of texts.
-use Rattle.std.proofs.Common.{◌≡◌, ◌<◌, ◌≤◌, ◌+◌, ◌∙◌, ◌||◌, ◌++◌, ◌∷◌, [], ℕ, zero, suc, List, Bool, true, false, Option, Some, None, String, Global, length, length-append, map, get_or, position, slice_get, string_bytes, bytes_eq, option_map, true≢false, if◌then◌else◌, arith, ap, ap₂, sym, subst, refl}
+use Rattle.std.proofs.Common.{◌≡◌, ◌≢◌, ◌<◌, ◌≤◌, ◌+◌, ◌∙◌, ◌||◌, ◌++◌, ◌∷◌, [], ℕ, zero, suc, List, Bool, true, false, Option, Some, None, String, Global, length, length-append, map, get_or, position, slice_get, string_bytes, bytes_eq, option_map, true≢false, if◌then◌else◌, arith, ap, ap₂, sym, subst, refl}
 use Rattle.std.specs.List.{AllZip, list_any}
 use Rattle.std.specs.String.{string_eq}
 use Rattle.std.proofs.lemmas.List.{map-append}
-use Rattle.std.proofs.lemmas.List.Quantifiers.{position-Some}
+use Rattle.std.proofs.lemmas.List.Quantifiers.{all_pairs_push, position-Some}
 use Rattle.std.proofs.lemmas.Option.{none-some, slice_get-get_or, slice_get-map}
 use Rattle.std.proofs.lemmas.Slice.Eq.{bytes_eq-Decides}
 use Rattle.indexmap.specs.IndexSet.{insert_key}
@@ -67,9 +67,11 @@ pub stands_at : (keys : List (String Global)) (at : ℕ) (text stored : String G
 stands_at keys at text stored name is stands same =
     slice_get-map string_bytes keys at ∙ ap (option_map string_bytes) stands ∙ ap (λ t. Some t) (sym (same_text text stored same) ∙ is)
 
--- there is room for one more name
-pub names_more : (names : NamesView) (text : List ℕ) (spec : NameSpec) → AreNames names → length names.texts < most_names → AreNames (with_name names text spec)
-names_more names text spec are room = record {
+-- there is room for one more name, which isn't there
+pub names_more : (names : NamesView) (text : List ℕ) (spec : NameSpec) → AreNames names → Lacks names.texts text → length names.texts < most_names → AreNames (with_name names text spec)
+names_more names text spec are lacks room = record {
+  apart = all_pairs_push (λ x y. x ≢ y) names.texts text are.apart
+    (λ k d within same. lacks k (slice_get-get_or names.texts k d within ∙ ap (λ t. Some t) same));
   paired = length-append names.specs (spec ∷ []) ∙ ap (λ n. n + 1) are.paired ∙ sym (length-append names.texts (text ∷ []));
   few = let more = length-append names.texts (text ∷ []) in omega arith;
 }

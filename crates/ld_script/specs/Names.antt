@@ -1,5 +1,6 @@
 -- The names that scripts use.
-use Rattle.std.specs.Prelude.{◌≡◌, ◌≤◌, ◌⊎◌, ◌++◌, ℕ, List, [], ◌∷◌, Some, length, slice_get}
+use Rattle.std.specs.Prelude.{◌≡◌, ◌≢◌, ◌≤◌, ◌⊎◌, ◌++◌, ℕ, List, [], ◌∷◌, Some, length, slice_get}
+use Rattle.std.specs.List.{AllPairs}
 use Rattle.ld_base.specs.declared.metric.NameSpec.{NameSpec}
 use Rattle.ld_script.specs.Name.{Lacks}
 
@@ -12,8 +13,9 @@ pub record NamesView : Type 0 where
 abbrev pub most_names : ℕ
 most_names = 1000
 
--- each name has what its samples are, and there aren't too many
+-- no two names are equal, each has what its samples are, and there aren't too many
 pub record AreNames (names : NamesView) : Type 0 where
+  pub apart : AllPairs (λ x y. x ≢ y) names.texts
   pub paired : length names.specs ≡ length names.texts
   pub few : length names.texts ≤ most_names
 

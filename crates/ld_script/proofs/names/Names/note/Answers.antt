@@ -9,7 +9,7 @@ invariant_of-self-2 c =
     subst AreNames
     (sym (noted c.args.self.now c.self.inside.texts.keys c.insert_full.new.self.keys c.in_ok-text.text c.self.inside.specs.items c.push.new.self.items c.args.name.now c.args.spec
     c.self.view_is c.in_default.ensures c.in_ok-text.ensures.ok c.in-Ok.ensures.keys pushed))
-    (names_more c.args.self.now c.args.name.now c.args.spec (subst AreNames c.self.view_is c.self.invariant) (c.requires c.in_default.ensures))
+    (names_more c.args.self.now c.args.name.now c.args.spec (subst AreNames c.self.view_is c.self.invariant) c.in_default.ensures (c.requires c.in_default.ensures))
 
 pub returns-clause-number : goal.returns-clause-number
 returns-clause-number c =
