@@ -1,8 +1,18 @@
 //! Scripts: what a virtual user does in one iteration.
 #![tactic(auto)]
 
+mod fault;
+mod members;
+mod name;
+mod names;
 mod script;
 mod scripts;
 
+pub use fault::ScriptFault;
+pub use name::is_name;
+pub use names::Names;
 pub use script::Script;
 pub use scripts::Scripts;
+
+#[cfg(test)]
+mod tests;
