@@ -1,12 +1,16 @@
 -- Answers that aren't refused.
-use Rattle.std.proofs.Common.{◌≡◌, ◌∙◌, ℕ, sym, subst}
+use Rattle.std.proofs.Common.{◌≡◌, ◌∙◌, ℕ, List, ap, sym, subst}
 use Rattle.std.specs.Prelude.{Result, Ok, Err, IfErr}
 use Rattle.std.specs.Result.{IsErr, IsErrAnd}
 use Rattle.ld_json.specs.Node.{NodeView}
 use Rattle.ld_json.specs.Rules.{Accepts}
-use Rattle.ld_options.specs.Executors.{RefusesGreatest, greatest, pre_allocated}
-use Rattle.ld_options.specs.Faults.{Refused}
+use Rattle.ld_options.specs.Executors.{RefusesGreatest, kind_of, greatest, pre_allocated}
+use Rattle.ld_json.specs.declared.fault.JsonFault.{JsonFault}
+use Rattle.ld_options.specs.Faults.{Refused, of_node}
+use Rattle.ld_options.specs.Scenarios.{RefusesFields, RefusesKnown}
 use Rattle.ld_options.specs.declared.fault.OptionsFault.{OptionsFault}
+use Rattle.ld_options.specs.declared.kind.Kind.{Kind}
+use Rattle.ld_options.specs.declared.kind.Kind.TheVariants.{ConstantArrivals}
 
 -- what two answers hold is the same
 pub ok_same : {A E : Type 0} → (x y : A) → ◌≡◌ {A = Result A E} (Ok x) (Ok y) → x ≡ y
@@ -30,3 +34,17 @@ pub handed_on : {T : Type 0} (Q : OptionsFault → Type 0) (result : Result T Op
     IsErr result × IsErrAnd result (λ f. f ≡ fault) → Q fault → IfErr result Q
 handed_on Q (Ok x) fault is q = tt
 handed_on Q (Err f) fault is q = subst Q (sym is.1) q
+
+-- an answer of a node that is Ok isn't refused
+pub node_accepts : {A : Type 0} → (answer : Result A JsonFault) (x : A) → answer ≡ Ok x → Accepts (Refused (of_node answer))
+node_accepts answer x is = ok_accepts (of_node answer) x (ap of_node is)
+
+-- what holds of each kind of executor holds of this one
+pub each_kind : (P : Kind → Type 0) (kind : Kind) → P ConstantArrivals → P kind
+each_kind P ConstantArrivals one = one
+
+-- a scenario whose fields aren't refused isn't refused for them
+pub known_accepts : (names : List (List ℕ)) (node : NodeView) (kind : Kind) → kind_of node ≡ Ok kind →
+    Accepts (RefusesFields names kind node) → Accepts (RefusesKnown names node)
+known_accepts names node kind is accepts fault r =
+    accepts fault (subst (λ k. RefusesFields names k node fault) (ok_same r.kind kind (sym r.kind_is ∙ is)) r.refused)

@@ -3,7 +3,9 @@ use Rattle.std.specs.Prelude.{◌≡◌, Result, Ok, Err, IfOk, IfErr}
 use Rattle.ld_json.specs.declared.fault.JsonFault.{JsonFault}
 use Rattle.ld_json.specs.declared.fault.JsonFault.TheVariants as json
 use Rattle.ld_options.specs.declared.fault.OptionsFault.{OptionsFault}
-use Rattle.ld_options.specs.declared.fault.OptionsFault.TheVariants.{NotJson, Missing, WrongKind, Unknown, Memory}
+use Rattle.ld_options.specs.declared.fault.OptionsFault.TheVariants.{NotJson, Missing, WrongKind, Unknown, BadName, Range, Memory}
+use Rattle.ld_script.specs.declared.fault.ScriptFault.{ScriptFault}
+use Rattle.ld_script.specs.declared.fault.ScriptFault.TheVariants as script
 
 -- the result is the answer, unless memory is missing
 abbrev pub Answers : {A : Type 0} → Result A OptionsFault → Result A OptionsFault → Type 0
@@ -20,6 +22,16 @@ of_json (json.Missing path) = Missing path
 of_json (json.WrongKind path) = WrongKind path
 of_json (json.Unknown path) = Unknown path
 of_json json.Memory = Memory
+
+-- the same fault of scripts
+abbrev pub of_script : ScriptFault → OptionsFault
+of_script script.NotJson = NotJson
+of_script (script.Missing path) = Missing path
+of_script (script.WrongKind path) = WrongKind path
+of_script (script.Unknown path) = Unknown path
+of_script (script.BadName path) = BadName path
+of_script (script.Range path) = Range path
+of_script script.Memory = Memory
 
 -- the same answer of a node
 abbrev pub of_node : {A : Type 0} → Result A JsonFault → Result A OptionsFault

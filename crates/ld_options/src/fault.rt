@@ -1,10 +1,11 @@
 ghost use Rattle.std.specs.Prelude.{◌≡◌};
-ghost use Rattle.ld_options.specs.Faults.{of_json};
+ghost use Rattle.ld_options.specs.Faults.{of_json, of_script};
 ghost use Rattle.ld_options.specs.declared.fault.OptionsFault.TheVariants.{Memory};
 
 use ld_base::BaseFault;
 use ld_json::{JsonFault, Path};
 use ld_num::NumFault;
+use ld_script::ScriptFault;
 use std::alloc::AllocError;
 use thiserror::Error;
 
@@ -77,6 +78,22 @@ impl From<JsonFault> for OptionsFault {
             JsonFault::WrongKind(path) => OptionsFault::WrongKind(path),
             JsonFault::Unknown(path) => OptionsFault::Unknown(path),
             JsonFault::Memory => OptionsFault::Memory,
+        }
+    }
+}
+
+impl From<ScriptFault> for OptionsFault {
+    ghost from_gives = { λ cause fault. fault ≡ of_script cause };
+
+    fn from(fault: ScriptFault) -> OptionsFault {
+        match fault {
+            ScriptFault::NotJson => OptionsFault::NotJson,
+            ScriptFault::Missing(path) => OptionsFault::Missing(path),
+            ScriptFault::WrongKind(path) => OptionsFault::WrongKind(path),
+            ScriptFault::Unknown(path) => OptionsFault::Unknown(path),
+            ScriptFault::BadName(path) => OptionsFault::BadName(path),
+            ScriptFault::Range(path) => OptionsFault::Range(path),
+            ScriptFault::Memory => OptionsFault::Memory,
         }
     }
 }

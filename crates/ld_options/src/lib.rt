@@ -6,6 +6,7 @@ mod executor;
 mod fault;
 mod fields;
 mod kind;
+mod member;
 mod options;
 mod range;
 mod scenario;

@@ -80,8 +80,18 @@ impl Scripts {
             (λ at. slice_get self.now.names at ≡ Some name.now) }
         ensures scripts { AreScripts self.now.names self.now.scripts }
     {
+        self.find_bytes(name.as_bytes())
+    }
+
+    /// The number of the script whose name has these bytes, or None exactly where there is none.
+    pub fn find_bytes(&self, name: &[u8]) -> Option<u16>
+        ensures found { MatchOption result
+            (Lacks self.now.names name.now)
+            (λ at. slice_get self.now.names at ≡ Some name.now) }
+        ensures scripts { AreScripts self.now.names self.now.scripts }
+    {
         for (at, text) in self.names.iter().enumerate() {
-            if text.as_slice() == name.as_bytes() {
+            if text.as_slice() == name {
                 return Some(at as u16);
             }
         }
