@@ -11,7 +11,7 @@ use Rattle.ld_base.specs.declared.metric.NameSpec.{NameSpec}
 use Rattle.ld_script.specs.Name.{Lacks}
 use Rattle.ld_script.specs.Names.{AreNames, NamesView, most_names, with_name}
 
-some_is : {A : Type 0} → (o : Option A) (x y : A) → o ≡ Some x → o ≡ Some y → x ≡ y
+pub some_is : {A : Type 0} → (o : Option A) (x y : A) → o ≡ Some x → o ≡ Some y → x ≡ y
 some_is o x y left right = cc
 
 both_false : (b c : Bool) → (b || c) ≡ false → (b ≡ false) × (c ≡ false)
