@@ -1,10 +1,9 @@
 -- Scripts are refused in one way.
-use Rattle.std.proofs.Common.{◌≡◌, ◌∙◌, List, [], ◌∷◌, Err, sym, inl, inr}
+use Rattle.std.proofs.Common.{◌≡◌, ◌∙◌, List, [], ◌∷◌, sym, inl, inr}
 use Rattle.ld_json.specs.Node.{NodeView, listed, paired}
 use Rattle.ld_json.specs.Rules.{FirstOf, Then}
 use Rattle.ld_script.specs.Refusal.{Member, members_of, HasBadName, HasMoreMembers, HasSteps, IsOfOtherKind, RefusesScript, RefusesScripts, RefusesSteps, RefusesTable}
 use Rattle.ld_script.specs.ScriptsView.{most_scripts}
-use Rattle.ld_script.specs.declared.fault.ScriptFault.{ScriptFault}
 
 -- a rule refuses with one fault at most
 abbrev pub IsSingle : {F : Type 0} → (F → Type 0) → Type 0

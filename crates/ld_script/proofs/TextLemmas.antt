@@ -1,5 +1,5 @@
 -- A text among names.
-use Rattle.std.proofs.Common.{◌≡◌, ◌<◌, ◌≤◌, ◌∙◌, ℕ, List, Option, Some, Bool, true, false, length, get_or, slice_get, bytes_eq, true≢false, arith, ap, sym, subst, refl}
+use Rattle.std.proofs.Common.{◌≡◌, ◌<◌, ◌≤◌, ◌∙◌, ℕ, List, Some, true, false, length, get_or, slice_get, bytes_eq, true≢false, arith, ap, sym, subst, refl}
 use Rattle.std.proofs.lemmas.Option.{slice_get_read, slice_get_within}
 use Rattle.std.proofs.lemmas.Slice.Eq.{bytes_eq-Decides}
 use Rattle.ld_script.specs.Name.{Lacks}
