@@ -1,5 +1,5 @@
 -- Names in a set of texts.
-use Rattle.std.proofs.Common.{◌≡◌, ◌≢◌, ◌<◌, ◌≤◌, ◌+◌, ◌∙◌, ◌||◌, ◌++◌, ◌∷◌, [], ℕ, zero, suc, List, Bool, true, false, Option, Some, None, String, Global, length, length-append, map, get_or, position, slice_get, string_bytes, bytes_eq, option_map, true≢false, if◌then◌else◌, arith, ap, ap₂, sym, subst, refl}
+use Rattle.std.proofs.Common.{◌≡◌, ◌≢◌, ◌<◌, ◌+◌, ◌∙◌, ◌||◌, ◌++◌, ◌∷◌, [], ℕ, zero, suc, List, Bool, true, false, Option, Some, String, Global, length, length-append, map, get_or, position, slice_get, string_bytes, bytes_eq, option_map, true≢false, if◌then◌else◌, arith, ap, ap₂, sym, subst, refl}
 use Rattle.std.specs.List.{AllZip, list_any}
 use Rattle.std.specs.String.{string_eq}
 use Rattle.std.proofs.lemmas.List.{map-append}
@@ -11,7 +11,7 @@ use Rattle.ld_base.specs.declared.metric.NameSpec.{NameSpec}
 use Rattle.ld_script.specs.Name.{Lacks}
 use Rattle.ld_script.specs.Names.{AreNames, NamesView, most_names, with_name}
 
-some_is : {A : Type 0} → (o : Option A) (x y : A) → o ≡ Some x → o ≡ Some y → x ≡ y
+pub some_is : {A : Type 0} → (o : Option A) (x y : A) → o ≡ Some x → o ≡ Some y → x ≡ y
 some_is o x y left right = cc
 
 both_false : (b c : Bool) → (b || c) ≡ false → (b ≡ false) × (c ≡ false)
@@ -71,7 +71,7 @@ stands_at keys at text stored name is stands same =
 pub names_more : (names : NamesView) (text : List ℕ) (spec : NameSpec) → AreNames names → Lacks names.texts text → length names.texts < most_names → AreNames (with_name names text spec)
 names_more names text spec are lacks room = record {
   apart = all_pairs_push (λ x y. x ≢ y) names.texts text are.apart
-    (λ k d within same. lacks k (slice_get-get_or names.texts k d within ∙ ap (λ t. Some t) same));
+      (λ k d within same. lacks k (slice_get-get_or names.texts k d within ∙ ap (λ t. Some t) same));
   paired = length-append names.specs (spec ∷ []) ∙ ap (λ n. n + 1) are.paired ∙ sym (length-append names.texts (text ∷ []));
   few = let more = length-append names.texts (text ∷ []) in omega arith;
 }

@@ -1,18 +1,13 @@
 -- What is accepted of the members of an object, and of a script.
-use Rattle.std.proofs.Common.{◌≡◌, ◌<◌, ◌≤◌, ◌+◌, ◌∙◌, ℕ, List, [], ◌∷◌, ◌++◌, All, Result, Ok, Err, length, map, take, drop, get_or, arith, ap, sym, subst, refl, inl, inr}
+use Rattle.std.proofs.Common.{◌≡◌, ◌<◌, ◌≤◌, ◌+◌, ◌∙◌, ℕ, List, [], ◌∷◌, ◌++◌, All, length, map, take, drop, get_or, ap, sym, subst, refl}
 use Rattle.std.specs.List.{AllByRecursion}
-use Rattle.std.specs.Result.{result_unwrap_or}
 use Rattle.std.proofs.lemmas.List.{drop_more, map-append, take_all, take_more, take-append-drop}
 use Rattle.std.proofs.lemmas.List.Elements.{All-push}
-use Rattle.ld_json.specs.Node.{NodeView, listed, paired}
-use Rattle.ld_json.specs.Rules.{Accepts, FirstOf, Then}
-use Rattle.ld_json.specs.declared.fault.JsonFault.{JsonFault}
-use Rattle.ld_json.specs.declared.fault.JsonFault.TheVariants as json
+use Rattle.ld_json.specs.Rules.{Accepts, FirstOf}
 use Rattle.ld_json.proofs.RulesLemmas.{accepts_snoc, first_behind, then_accepts}
 use Rattle.ld_script.specs.Name.{IsName}
-use Rattle.ld_script.specs.Refusal.{Member, members_of, HasBadName, HasMoreMembers, IsOfOtherKind, RefusesScript, RefusesSteps, RefusesTable}
+use Rattle.ld_script.specs.Refusal.{Member, HasBadName, RefusesScript, RefusesSteps}
 use Rattle.ld_script.specs.Scripts.{name_of, script_of}
-use Rattle.ld_script.specs.ScriptsView.{most_scripts}
 use Rattle.ld_script.specs.declared.fault.ScriptFault.{ScriptFault}
 use Rattle.ld_script.specs.declared.script.Script.{Script}
 

@@ -1,11 +1,9 @@
 -- A text among names.
-use Rattle.std.proofs.Common.{◌≡◌, ◌<◌, ◌≤◌, ◌∙◌, ℕ, List, Option, Some, Bool, true, false, length, get_or, slice_get, bytes_eq, true≢false, arith, ap, sym, subst, refl}
+use Rattle.std.proofs.Common.{◌≡◌, ◌<◌, ◌≤◌, ◌∙◌, ℕ, List, Some, true, false, length, get_or, slice_get, bytes_eq, true≢false, arith, ap, sym, subst, refl}
 use Rattle.std.proofs.lemmas.Option.{slice_get_read, slice_get_within}
 use Rattle.std.proofs.lemmas.Slice.Eq.{bytes_eq-Decides}
 use Rattle.ld_script.specs.Name.{Lacks}
-
-some_is : {A : Type 0} → (o : Option A) (x y : A) → o ≡ Some x → o ≡ Some y → x ≡ y
-some_is o x y left right = cc
+use Rattle.ld_script.proofs.NamesLemmas.{some_is}
 
 -- the text that stands at this place
 stands : (names seen : List (List ℕ)) (at : ℕ) (item : List ℕ) → seen ≡ names → at < length seen → item ≡ get_or seen at item → slice_get names at ≡ Some item

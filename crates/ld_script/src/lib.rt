@@ -2,6 +2,7 @@
 #![tactic(auto)]
 
 mod fault;
+mod laws;
 mod members;
 mod name;
 mod names;
@@ -9,6 +10,7 @@ mod script;
 mod scripts;
 
 pub use fault::ScriptFault;
+pub use laws::{one_number, one_refusal};
 pub use name::is_name;
 pub use names::Names;
 pub use script::Script;

@@ -35,10 +35,7 @@ pub fn members_of<'a>(
 }
 
 // The script of each member. The first of them that is refused decides.
-pub fn read_each(
-    alloc: Global,
-    members: &[(Text, Node<'_>)],
-) -> Result<Vec<Script>, ScriptFault>
+pub fn read_each(alloc: Global, members: &[(Text, Node<'_>)]) -> Result<Vec<Script>, ScriptFault>
     ensures value { IfOk result (λ scripts. scripts.items ≡ map script_of members.now) }
     ensures named { IfOk result (λ _. All IsName (map name_of members.now)) }
     ensures accepted { IfOk result (λ _. Accepts (FirstOf RefusesScript members.now)) }

@@ -20,11 +20,7 @@ pub struct Script {
 
 impl Script {
     // The script that a member of the object of scripts is.
-    pub(crate) fn read(
-        alloc: Global,
-        name: &Text,
-        node: &Node<'_>,
-    ) -> Result<Script, ScriptFault>
+    pub(crate) fn read(alloc: Global, name: &Text, node: &Node<'_>) -> Result<Script, ScriptFault>
         ensures value { IfOk result (λ script. script ≡ script_of (name.now, node.now)) }
         ensures named { IfOk result (λ _. IsName name.now) }
         ensures accepted { IfOk result (λ _. Accepts (RefusesScript (name.now, node.now))) }

@@ -5,6 +5,7 @@ use std::alloc::{AllocError, Global};
 use std::test::Fail;
 
 const LETTERS_64: &str = "abcdefghijklmnopqrstuvwxyzabcdefghijklmnopqrstuvwxyz0123456789_-";
+
 const LETTERS_65: &str = "abcdefghijklmnopqrstuvwxyzabcdefghijklmnopqrstuvwxyz0123456789_-a";
 
 // Why the scripts of a document are refused.
@@ -74,7 +75,10 @@ fn documents_are_refused(rt: HostRuntime) -> Result<(), Fail> {
 #[test]
 fn documents_are_read(rt: HostRuntime) -> Result<(), Fail> {
     let alloc = rt.alloc();
-    let scripts = read(alloc, "{\"b\":[],\"a\":[],\"B\":[],\"_\":[],\"-\":[],\"9\":[],\"10\":[]}")?;
+    let scripts = read(
+        alloc,
+        "{\"b\":[],\"a\":[],\"B\":[],\"_\":[],\"-\":[],\"9\":[],\"10\":[]}",
+    )?;
     let names = ["-", "10", "9", "B", "_", "a", "b"];
     assert!(rt; has_names(&scripts, &names));
     assert_eq!(rt; scripts.find("-"), Some(0));
@@ -205,7 +209,15 @@ fn note(alloc: Global, names: &mut Names, text: &str, checks: u8) -> Result<u16,
     if names.specs().len() >= 1000 {
         return Err(ScriptFault::Memory);
     }
-    names.note(alloc, text, NameSpec { counter: false, checks })
+    names.note(alloc, text, request(checks))
+}
+
+// What the samples of requests with so many checks are.
+fn request(checks: u8) -> NameSpec {
+    NameSpec {
+        counter: false,
+        checks,
+    }
 }
 
 // Whether a name has this number, and so many checks.
@@ -213,6 +225,5 @@ fn is_noted(names: &Names, at: u16, text: &str, checks: u8) -> bool {
     if at as usize >= names.specs().len() {
         return false;
     }
-    let spec = names.specs()[at as usize];
-    names.text(at) == text && spec == NameSpec { counter: false, checks }
+    names.text(at) == text && names.specs()[at as usize] == request(checks)
 }

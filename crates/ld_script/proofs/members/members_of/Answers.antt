@@ -1,4 +1,3 @@
-use Rattle.std.proofs.Common.{rules}
 use Rattle.ld_json.proofs.OrderLemmas.{pairs_ascend}
 use Rattle.ld_script.proofs.members.members_of.Goals as goal
 

@@ -1,4 +1,3 @@
-use Rattle.std.proofs.Common.{rules}
 use Rattle.std.proofs.lemmas.Result.{err_from_is_err_and}
 use Rattle.ld_json.proofs.RulesLemmas.{all_accept}
 use Rattle.ld_script.specs.Refusal.{RefusesScript}

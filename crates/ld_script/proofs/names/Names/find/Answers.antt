@@ -1,4 +1,4 @@
-use Rattle.std.proofs.Common.{◌≡◌, ◌∙◌, List, ℕ, Some, slice_get, ap, sym, subst, is_some}
+use Rattle.std.proofs.Common.{◌≡◌, ◌∙◌, Some, slice_get, ap, sym, subst, is_some}
 use Rattle.ld_script.specs.Name.{Lacks}
 use Rattle.ld_script.specs.Names.{NamesView}
 use Rattle.ld_script.proofs.NamesLemmas.{name_at, name_lacks}

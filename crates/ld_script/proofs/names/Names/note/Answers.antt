@@ -19,6 +19,8 @@ returns-clause-number c =
 pub returns-clause-names : goal.returns-clause-names
 returns-clause-names c =
     let pushed : c.push.new.self.items ≡ c.self.inside.specs.items ++ c.args.spec ∷ [] = search rules in
-    inr (c.in_default.ensures,
-    noted c.args.self.now c.self.inside.texts.keys c.insert_full.new.self.keys c.in_ok-text.text c.self.inside.specs.items c.push.new.self.items c.args.name.now c.args.spec
-    c.self.view_is c.in_default.ensures c.in_ok-text.ensures.ok c.in-Ok.ensures.keys pushed)
+    inr (
+      c.in_default.ensures,
+      noted c.args.self.now c.self.inside.texts.keys c.insert_full.new.self.keys c.in_ok-text.text c.self.inside.specs.items c.push.new.self.items c.args.name.now c.args.spec
+          c.self.view_is c.in_default.ensures c.in_ok-text.ensures.ok c.in-Ok.ensures.keys pushed,
+    )

@@ -1,8 +1,6 @@
-use Rattle.std.proofs.Common.{rules, subst}
+use Rattle.std.proofs.Common.{subst}
 use Rattle.std.proofs.lemmas.Result.{IfOk-weaker}
-use Rattle.ld_json.specs.Rules.{Accepts}
 use Rattle.ld_script.specs.Name.{IsName}
-use Rattle.ld_script.specs.Refusal.{RefusesScript}
 use Rattle.ld_script.proofs.TableLemmas.{script_accepted}
 use Rattle.ld_script.proofs.script.Script.read.Goals as goal
 
