@@ -1,2 +1,3 @@
 pub mod RefusalLemmas
 pub mod TimesLemmas
+pub mod ScenarioLemmas

@@ -2,6 +2,7 @@
 #![tactic(auto)]
 
 mod arrivals;
+mod document;
 mod executor;
 mod fault;
 mod fields;
