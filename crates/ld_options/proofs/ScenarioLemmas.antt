@@ -1,15 +1,20 @@
 -- Scenarios that are read one behind the other.
-use Rattle.std.proofs.Common.{◌≡◌, ◌<◌, ◌≤◌, ◌+◌, ◌∙◌, ℕ, List, [], ◌∷◌, ◌++◌, All, length, take, get_or, arith, ap, sym, subst}
+use Rattle.std.proofs.Common.{◌≡◌, ◌<◌, ◌≤◌, ◌+◌, ◌∙◌, ℕ, List, [], ◌∷◌, ◌++◌, All, length, take, get_or, arith, ap, sym, subst, inl, inr}
 use Rattle.std.specs.List.{AllByRecursion, AllZip}
 use Rattle.std.proofs.lemmas.List.{take_all, take_more}
 use Rattle.std.proofs.lemmas.List.Elements.{All-push}
+use Rattle.std.specs.Prelude.{Option, Some}
+use Rattle.ld_json.specs.Document.{IsDocument}
+use Rattle.ld_json.specs.Node.{NodeView}
 use Rattle.ld_json.specs.Rules.{Accepts, FirstOf}
 use Rattle.ld_json.proofs.RulesLemmas.{accepts_snoc, first_at}
+use Rattle.ld_options.specs.Document.{IsRefusal, OfScripts, RefusesDocument, root_of}
 use Rattle.ld_options.specs.Ranges.{AreInRange, IsScenarioInRange}
 use Rattle.ld_options.specs.Scenarios.{IsScenarioOf, RefusesScenario}
 use Rattle.ld_options.specs.declared.fault.OptionsFault.{OptionsFault}
 use Rattle.ld_options.specs.declared.scenario.Scenario.{Scenario}
-use Rattle.ld_script.specs.Refusal.{Member}
+use Rattle.ld_script.specs.Refusal.{Member, RefusesScripts}
+use Rattle.serde_json.specs.Data.{Data}
 
 -- one more pair
 zip_push : {A B : Type 0} (R : A → B → Type 0) (xs : List A) (ys : List B) (x : A) (y : B) → AllZip R xs ys → R x y → AllZip R (xs ++ x ∷ []) (ys ++ y ∷ [])
@@ -56,3 +61,27 @@ read_at names members i member list s inside is so_far value within known accept
 pub all_read : (names : List (List ℕ)) (members : List Member) (i : ℕ) (list : List Scenario) → length members ≤ i →
     ReadSoFar names (take i members) list → ReadSoFar names members list
 all_read names members i list past so_far = subst (λ ms. ReadSoFar names ms list) (take_all i members past) so_far
+
+-- the same scripts and the same members
+pub moved : (P : List (List ℕ) → NodeView → Type 0) (names others : List (List ℕ)) (node other : NodeView) → names ≡ others → node ≡ other →
+    P names node → P others other
+moved P names others node other same_names same_node p =
+    subst (P others) same_node (subst (λ ns. P ns node) same_names p)
+
+-- what isn't refused of the scripts isn't refused of the document
+pub scripts_accept : (node : NodeView) → Accepts (RefusesScripts node) → Accepts (OfScripts (RefusesScripts node))
+scripts_accept node accepts fault r = accepts r.0 r.1
+
+-- what two options hold is the same
+some_same : {A : Type 0} → (x y : A) → ◌≡◌ {A = Option A} (Some x) (Some y) → x ≡ y
+some_same x y same = cc
+
+-- bytes are one document
+one_document : (bytes : List ℕ) (d e : Data) → IsDocument bytes d → IsDocument bytes e → d ≡ e
+one_document bytes d e of_d of_e = some_same d e (sym of_d.read ∙ of_e.read)
+
+-- bytes of a document that isn't refused aren't refused
+pub document_accepts : (bytes : List ℕ) (d : Data) → IsDocument bytes d → Accepts (RefusesDocument (root_of d)) → Accepts (IsRefusal bytes)
+document_accepts bytes d is accepts fault (inl r) = r.0 d is
+document_accepts bytes d is accepts fault (inr r) =
+    accepts fault (subst (λ e. RefusesDocument (root_of e) fault) (one_document bytes r.0 d r.1 is) r.2)

@@ -142,7 +142,7 @@ fn read_scenarios(
 }
 
 // The options that a document says.
-pub(crate) fn options(alloc: Global, root: &Node<'_>) -> Result<Options, OptionsFault>
+pub(crate) fn read_root(alloc: Global, root: &Node<'_>) -> Result<Options, OptionsFault>
     ensures value { IfOk result (AreOptionsOf root.now) }
     ensures accepted { OnOk result (Accepts (RefusesDocument root.now)) }
     ensures refused { IfErr result (λ f. f ≢ Memory → RefusesDocument root.now f) }

@@ -1,6 +1,6 @@
 ghost use Rattle.std.specs.Prelude.{◌≡◌, ◌<◌, All, length};
 
-use crate::document::options;
+use crate::document::read_root;
 use crate::fault::OptionsFault;
 use crate::scenarios::Scenarios;
 use ld_json::Doc;
@@ -40,6 +40,6 @@ impl Options {
         ensures refused { IfErr result (λ f. f ≢ Memory → IsRefusal bytes.now f) }
     {
         let doc = Doc::read(alloc, bytes)?;
-        options(alloc, &doc.root())
+        read_root(alloc, &doc.root())
     }
 }

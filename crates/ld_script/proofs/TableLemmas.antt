@@ -4,7 +4,7 @@ use Rattle.std.specs.List.{AllByRecursion}
 use Rattle.std.proofs.lemmas.List.{drop_more, map-append, take_all, take_more, take-append-drop}
 use Rattle.std.proofs.lemmas.List.Elements.{All-push}
 use Rattle.ld_json.specs.Rules.{Accepts, FirstOf}
-use Rattle.ld_json.proofs.RulesLemmas.{accepts_snoc, first_behind, then_accepts}
+use Rattle.ld_json.proofs.RulesLemmas.{accepts_snoc, first_at, then_accepts}
 use Rattle.ld_script.specs.Name.{IsName}
 use Rattle.ld_script.specs.Refusal.{Member, HasBadName, RefusesScript, RefusesSteps}
 use Rattle.ld_script.specs.Scripts.{name_of, script_of}
@@ -41,10 +41,7 @@ read_at members i member scripts script within is so_far value named accepted =
 -- the member at this place is the first that is refused
 pub refused_at : (members : List Member) (i : ℕ) (member : Member) (scripts : List Script) → i < length members → member ≡ get_or members i member → ReadSoFar (take i members) scripts
     → (fault : ScriptFault) → RefusesScript member fault → FirstOf RefusesScript members fault
-refused_at members i member scripts within is so_far fault refused =
-    subst (λ ms. FirstOf RefusesScript ms fault)
-    (ap (λ rest. take i members ++ rest) (ap (λ m. m ∷ drop (i + 1) members) is ∙ sym (drop_more members i member within)) ∙ take-append-drop i members)
-    (first_behind RefusesScript (take i members) member (drop (i + 1) members) so_far.accepted fault refused)
+refused_at members i member scripts within is so_far = first_at RefusesScript members i member within is so_far.accepted
 
 -- all members are read
 pub all_read : (members : List Member) (i : ℕ) (scripts : List Script) → length members ≤ i → ReadSoFar (take i members) scripts → ReadSoFar members scripts

@@ -1,0 +1,21 @@
+-- The bytes are a document, whose options are read.
+use Rattle.std.proofs.Common.{inr, subst}
+use Rattle.std.specs.Prelude.{◌≢◌}
+use Rattle.std.proofs.lemmas.Result.{IfErr-weaker, IfOk-weaker, on_ok_weaker}
+use Rattle.ld_json.specs.Rules.{Accepts}
+use Rattle.ld_options.specs.Document.{AreOptions, AreOptionsOf, IsRefusal, RefusesDocument}
+use Rattle.ld_options.specs.declared.fault.OptionsFault.TheVariants.{Memory}
+use Rattle.ld_options.proofs.ScenarioLemmas.{document_accepts}
+use Rattle.ld_options.proofs.options.Options.read.Goals as goal
+
+pub returns-clause-value : goal.returns-clause-value
+returns-clause-value c =
+    IfOk-weaker _ _ (AreOptions c.args.bytes.now) (λ o are. (c.in_ok-doc.doc, c.in_ok-doc.ensures.ok, subst (λ n. AreOptionsOf n o) c.root.ensures are)) c.read_root-2.ensures.value
+
+pub returns-clause-accepted : goal.returns-clause-accepted
+returns-clause-accepted c =
+    on_ok_weaker _ (λ accepts. document_accepts c.args.bytes.now c.in_ok-doc.doc c.in_ok-doc.ensures.ok (subst (λ n. Accepts (RefusesDocument n)) c.root.ensures accepts)) c.read_root-2.ensures.accepted
+
+pub returns-clause-refused : goal.returns-clause-refused
+returns-clause-refused c =
+    IfErr-weaker _ _ (λ f. f ≢ Memory → IsRefusal c.args.bytes.now f) (λ f refused other. inr (c.in_ok-doc.doc, c.in_ok-doc.ensures.ok, subst (λ n. RefusesDocument n f) c.root.ensures (refused other))) c.read_root-2.ensures.refused
