@@ -21,7 +21,7 @@ pub struct Options {
 }
 
 impl Options {
-    ghost use Rattle.std.specs.Prelude.{◌≢◌, IfErr, IfOk, OnOk};
+    ghost use Rattle.std.specs.Prelude.{◌≡◌, ◌≢◌, IfErr, IfOk, OnOk};
     ghost use Rattle.ld_json.specs.Rules.{Accepts};
     ghost use Rattle.ld_options.specs.Document.{AreOptions, IsRefusal};
     ghost use Rattle.ld_options.specs.declared.fault.OptionsFault.TheVariants.{Memory};
@@ -41,5 +41,17 @@ impl Options {
     {
         let doc = Doc::read(alloc, bytes)?;
         read_root(alloc, &doc.root())
+    }
+
+    /// Equal options.
+    ///
+    /// Fails where there is no memory for them.
+    pub fn copy(&self, alloc: Global) -> Result<Options, OptionsFault>
+        ensures value { IfOk result (λ options. options ≡ self.now) }
+        ensures memory { IfErr result (λ f. f ≡ Memory) }
+    {
+        let scenarios = self.scenarios.copy(alloc)?;
+        let scripts = self.scripts.copy(alloc)?;
+        Ok(Options { scenarios, scripts })
     }
 }

@@ -1,5 +1,8 @@
+ghost use Rattle.std.specs.Prelude.{◌≡◌, IfOk};
+
 use crate::executor::Executor;
 use ld_base::Text;
+use std::alloc::{AllocError, Global};
 
 /// A scenario of a test, as k6's options of the same names
 /// (<https://grafana.com/docs/k6/latest/using-k6/scenarios/>).
@@ -16,4 +19,20 @@ pub struct Scenario {
     pub script: u16,
     /// How its iterations are planned.
     pub executor: Executor,
+}
+
+impl Scenario {
+    // An equal scenario.
+    pub(crate) fn copy(&self, alloc: Global) -> Result<Scenario, AllocError>
+        ensures { IfOk result (λ s. s ≡ self.now) }
+    {
+        let name = Text::of(Vec::from_slice(alloc, self.name.as_slice())?);
+        Ok(Scenario {
+            name,
+            begin: self.begin,
+            grace: self.grace,
+            script: self.script,
+            executor: self.executor,
+        })
+    }
 }

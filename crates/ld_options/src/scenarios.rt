@@ -1,6 +1,7 @@
-ghost use Rattle.std.specs.Prelude.{◌≡◌};
+ghost use Rattle.std.specs.Prelude.{◌≡◌, IfOk};
 
 use crate::scenario::Scenario;
+use std::alloc::{AllocError, Global};
 use std::marker::Model;
 
 /// The scenarios of a test, in byte order of their names. Their numbers are in their ranges.
@@ -39,4 +40,26 @@ impl Scenarios {
     {
         self.items.as_slice()
     }
+
+    // Equal scenarios.
+    pub(crate) fn copy(&self, alloc: Global) -> Result<Scenarios, AllocError>
+        ensures { IfOk result (λ list. list ≡ self.now) }
+    {
+        let items = copies(alloc, self.as_slice())?;
+        Ok(Scenarios { items })
+    }
+}
+
+// The same scenarios.
+fn copies(alloc: Global, scenarios: &[Scenario]) -> Result<Vec<Scenario>, AllocError>
+    ensures { IfOk result (λ copies. copies.items ≡ scenarios.now) }
+{
+    let mut copies = Vec::new(alloc);
+    for scenario in scenarios {
+        let copy = scenario.copy(alloc)?;
+        let Ok(()) = copies.push(copy) else {
+            return Err(AllocError);
+        };
+    }
+    Ok(copies)
 }
