@@ -3,15 +3,16 @@ use Rattle.std.proofs.Common.{◌≡◌, ◌<◌, ◌≤◌, ◌+◌, ◌∙◌,
 use Rattle.std.specs.List.{AllByRecursion, AllZip}
 use Rattle.std.proofs.lemmas.List.{take_all, take_more}
 use Rattle.std.proofs.lemmas.List.Elements.{All-push}
-use Rattle.std.specs.Prelude.{Option, Some}
+use Rattle.std.specs.Prelude.{IfOk, OnOk, Option, Some, Result, Ok, Err}
 use Rattle.ld_json.specs.Document.{IsDocument}
 use Rattle.ld_json.specs.Node.{NodeView}
-use Rattle.ld_json.specs.Rules.{Accepts, FirstOf}
-use Rattle.ld_json.proofs.RulesLemmas.{accepts_snoc, first_at}
-use Rattle.ld_options.specs.Document.{IsRefusal, OfScripts, RefusesDocument, root_of}
+use Rattle.ld_json.specs.Rules.{Accepts}
+use Rattle.ld_json.proofs.RulesLemmas.{accepts_snoc}
+use Rattle.ld_options.specs.Document.{AreOptions, AreOptionsOf, IsRefusal, OfScripts, RefusesDocument, root_of}
 use Rattle.ld_options.specs.Ranges.{AreInRange, IsScenarioInRange}
 use Rattle.ld_options.specs.Scenarios.{IsScenarioOf, RefusesScenario}
 use Rattle.ld_options.specs.declared.fault.OptionsFault.{OptionsFault}
+use Rattle.ld_options.specs.declared.options.Options.{Options}
 use Rattle.ld_options.specs.declared.scenario.Scenario.{Scenario}
 use Rattle.ld_script.specs.Refusal.{Member, RefusesScripts}
 use Rattle.serde_json.specs.Data.{Data}
@@ -73,11 +74,11 @@ pub scripts_accept : (node : NodeView) → Accepts (RefusesScripts node) → Acc
 scripts_accept node accepts fault r = accepts r.0 r.1
 
 -- what two options hold is the same
-some_same : {A : Type 0} → (x y : A) → ◌≡◌ {A = Option A} (Some x) (Some y) → x ≡ y
+pub some_same : {A : Type 0} → (x y : A) → ◌≡◌ {A = Option A} (Some x) (Some y) → x ≡ y
 some_same x y same = cc
 
 -- bytes are one document
-one_document : (bytes : List ℕ) (d e : Data) → IsDocument bytes d → IsDocument bytes e → d ≡ e
+pub one_document : (bytes : List ℕ) (d e : Data) → IsDocument bytes d → IsDocument bytes e → d ≡ e
 one_document bytes d e of_d of_e = some_same d e (sym of_d.read ∙ of_e.read)
 
 -- bytes of a document that isn't refused aren't refused
@@ -85,3 +86,9 @@ pub document_accepts : (bytes : List ℕ) (d : Data) → IsDocument bytes d → 
 document_accepts bytes d is accepts fault (inl r) = r.0 d is
 document_accepts bytes d is accepts fault (inr r) =
     accepts fault (subst (λ e. RefusesDocument (root_of e) fault) (one_document bytes r.0 d r.1 is) r.2)
+
+-- what is read of a document of which nothing is refused are its options
+pub read_options : (bytes : List ℕ) (d : Data) (result : Result Options OptionsFault) → IsDocument bytes d → IfOk result (AreOptionsOf (root_of d)) →
+    OnOk result (Accepts (RefusesDocument (root_of d))) → IfOk result (AreOptions bytes)
+read_options bytes d (Ok options) is are accepts = record { held = d; document = is; options_are = are; accepted = accepts }
+read_options bytes d (Err fault) is are accepts = tt

@@ -1,11 +1,11 @@
 -- Documents of tests: the options that one means, or what is refused of it first.
-use Rattle.std.specs.Prelude.{◌≡◌, ◌⊎◌, ℕ, List, [], Result, Ok, codes, length, map, unwrap_or}
+use Rattle.std.specs.Prelude.{◌≡◌, ◌⊎◌, ℕ, List, [], Result, codes, length, map, unwrap_or}
 use Rattle.std.specs.List.{AllZip}
 use Rattle.ld_json.specs.Document.{IsDocument}
 use Rattle.ld_json.specs.Known.{allowed}
 use Rattle.ld_json.specs.Node.{NodeView, needed, paired}
 use Rattle.ld_json.specs.Pointer.{member_path}
-use Rattle.ld_json.specs.Rules.{FirstOf, Then}
+use Rattle.ld_json.specs.Rules.{Accepts, FirstOf, Then}
 use Rattle.ld_options.specs.Faults.{Refused, and_then, of_node, of_script}
 use Rattle.ld_options.specs.Fields.{ranged}
 use Rattle.ld_options.specs.Scenarios.{IsScenarioOf, RefusesScenario}
@@ -15,7 +15,7 @@ use Rattle.ld_options.specs.declared.options.Options.{Options}
 use Rattle.ld_options.specs.declared.range.Range.{Range}
 use Rattle.ld_script.specs.Refusal.{Member, RefusesScripts, members_of}
 use Rattle.ld_script.specs.Scripts.{AreScriptsOf, name_of}
-use Rattle.ld_script.specs.ScriptsView.{most_scripts}
+use Rattle.ld_script.specs.ScriptsView.{AreOrdered, most_scripts}
 use Rattle.ld_script.specs.declared.fault.ScriptFault.{ScriptFault}
 use Rattle.serde_json.specs.Data.{Data, null}
 use Rattle.serde_json.specs.Find.{get}
@@ -57,6 +57,7 @@ scenario_counts = record { least = 1; most = 1 }
 
 -- the options that a document says
 pub record AreOptionsOf (root : NodeView) (options : Options) : Type 0 where
+  pub ordered : AreOrdered (script_names root)
   pub scripts_are : AreScriptsOf (scripts_in root) options.scripts
   pub scenarios_are : AllZip (IsScenarioOf (script_names root)) (members_of (scenarios_in root)) options.scenarios
 
@@ -84,9 +85,12 @@ RefusesDocument root =
     (Then (OfScripts (RefusesScripts (scripts_in root)))
     (FirstOf (RefusesScenario (script_names root)) (members_of (scenarios_in root)))))
 
--- the bytes are a document of these options
-abbrev pub AreOptions : List ℕ → Options → Type 0
-AreOptions bytes options = (d : Data) × IsDocument bytes d × AreOptionsOf (root_of d) options
+-- the bytes are a document of which nothing is refused, and these are its options
+pub record AreOptions (bytes : List ℕ) (options : Options) : Type 0 where
+  pub held : Data
+  pub document : IsDocument bytes held
+  pub options_are : AreOptionsOf (root_of held) options
+  pub accepted : Accepts (RefusesDocument (root_of held))
 
 -- the bytes are refused: as no document, or else what they say
 abbrev pub IsRefusal : List ℕ → OptionsFault → Type 0

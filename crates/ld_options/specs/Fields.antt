@@ -1,5 +1,5 @@
 -- The fields of an object: what a member is, or what stands for it where it isn't there.
-use Rattle.std.specs.Prelude.{◌≡◌, ◌&&◌, ℕ, List, Option, Some, None, Result, Ok, Err, nat_le, ok_or, if◌then◌else◌}
+use Rattle.std.specs.Prelude.{◌&&◌, ℕ, List, Option, Some, None, Result, Ok, Err, nat_le, ok_or, if◌then◌else◌}
 use Rattle.ld_json.specs.Node.{NodeView, as_whole, wanted}
 use Rattle.ld_json.specs.Pointer.{member_path}
 use Rattle.ld_options.specs.Faults.{and_then, of_node}

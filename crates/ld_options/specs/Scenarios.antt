@@ -28,14 +28,18 @@ pub record IsScript (names : List (List ℕ)) (node : NodeView) (at : ℕ) : Typ
   pub holds : given as_str (Some (codes "default")) node (codes "exec") ≡ Ok text
   pub found : slice_get names at ≡ Some text
 
+-- no script has this name
+pub record IsLost (names : List (List ℕ)) (path text : List ℕ) (fault : OptionsFault) : Type 0 where
+  pub lacks : Lacks names text
+  pub says : fault ≡ faults.ScriptUnknown path
+
 -- the name of a script is refused, or else that no script has it
 pub record RefusesScript (names : List (List ℕ)) (node : NodeView) (fault : OptionsFault) : Type 0 where
   pub refused :
       Refused (given as_str (Some (codes "default")) node (codes "exec")) fault
       ⊎ ((text : List ℕ)
-         × (given as_str (Some (codes "default")) node (codes "exec") ≡ Ok text)
-         × Lacks names text
-         × (fault ≡ faults.ScriptUnknown (member_path node.path (codes "exec"))))
+      × (given as_str (Some (codes "default")) node (codes "exec") ≡ Ok text)
+      × IsLost names (member_path node.path (codes "exec")) text fault)
 
 -- the scenario that a member of `scenarios` says, where the scripts have these names
 pub record IsScenarioOf (names : List (List ℕ)) (member : Member) (s : Scenario) : Type 0 where

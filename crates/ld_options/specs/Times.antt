@@ -1,5 +1,5 @@
 -- Spans of time in a document: texts of durations, or whole numbers of milliseconds.
-use Rattle.std.specs.Prelude.{◌≡◌, ◌⊎◌, ℕ, List, Option, Result, Ok, Err, decimal, option_map}
+use Rattle.std.specs.Prelude.{◌≡◌, ◌⊎◌, ℕ, List, Option, Ok, decimal, option_map}
 use Rattle.std.specs.Option.{option_or}
 use Rattle.ld_json.specs.Node.{NodeView, as_whole}
 use Rattle.ld_json.specs.Pointer.{member_path}

@@ -29,10 +29,7 @@ const SCRIPT_COUNTS: Range = Range {
 };
 
 /// How many scenarios there may be.
-const SCENARIO_COUNTS: Range = Range {
-    least: 1,
-    most: 1,
-};
+const SCENARIO_COUNTS: Range = Range { least: 1, most: 1 };
 
 // How many members the object has that the value is.
 fn members_in(alloc: Global, node: &Node<'_>) -> Result<u64, OptionsFault>
@@ -76,10 +73,7 @@ fn counted<'n>(
 }
 
 // The objects of options and of scripts.
-fn root_objects<'n>(
-    alloc: Global,
-    root: &'n Node<'_>,
-) -> Result<(Node<'n>, Node<'n>), OptionsFault>
+fn root_objects<'n>(alloc: Global, root: &'n Node<'_>) -> Result<(Node<'n>, Node<'n>), OptionsFault>
     ensures value { IfOk result (λ nodes. nodes ≡ (options_in root.now, scripts_in root.now)) }
     ensures accepted { OnOk result (Accepts (RefusesRoot root.now)) }
     ensures refused { IfErr result (λ f. f ≢ Memory → RefusesRoot root.now f) }

@@ -7,6 +7,7 @@ mod executor;
 mod fault;
 mod fields;
 mod kind;
+mod laws;
 mod member;
 mod options;
 mod range;
@@ -16,6 +17,7 @@ mod times;
 
 pub use executor::Executor;
 pub use fault::OptionsFault;
+pub use laws::one_meaning;
 pub use options::Options;
 pub use scenario::Scenario;
 pub use scenarios::Scenarios;

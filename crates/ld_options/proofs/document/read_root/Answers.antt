@@ -30,8 +30,16 @@ returns-in_err-scenarios-clause-refused c =
     let names = c.in_ok-scripts.ensures.value.names ∙ ap (λ n. map name_of (members_of n)) scripts in
     let node = c.in_ok-node.ensures.value ∙ ap (λ n. inside n (codes "scenarios")) options in
     handed_on _ _ _ c.from_residual-in_err-scenarios.ensures
-    (λ other. inr (c.in_ok-options.ensures.accepted, inr (objects, inr (read,
-    moved (λ ns n. FirstOf (RefusesScenario ns) (members_of n) c.in_err-scenarios.field-0.0) _ (script_names c.args.root.now) _ (scenarios_in c.args.root.now) names node (c.in_err-scenarios.ensures.refused other)))))
+    (λ other. inr (
+      c.in_ok-options.ensures.accepted,
+      inr (
+        objects,
+        inr (
+          read,
+          moved (λ ns n. FirstOf (RefusesScenario ns) (members_of n) c.in_err-scenarios.field-0.0) _ (script_names c.args.root.now) _ (scenarios_in c.args.root.now) names node (c.in_err-scenarios.ensures.refused other),
+        ),
+      ),
+    ))
 
 pub invariant_of-result-clause-one : goal.invariant_of-result-clause-one
 invariant_of-result-clause-one c =

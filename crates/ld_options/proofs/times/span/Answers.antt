@@ -1,5 +1,5 @@
 -- A span that is read is in its range, or refused for it; and one that isn't read is refused.
-use Rattle.std.proofs.Common.{◌≡◌, IfOk, ap, subst, sym, inl}
+use Rattle.std.proofs.Common.{IfOk, ap, subst, sym, inl}
 use Rattle.std.proofs.lemmas.Result.{IfOk-weaker}
 use Rattle.ld_json.specs.Pointer.{member_path}
 use Rattle.ld_json.specs.Rules.{Accepts}

@@ -1,16 +1,18 @@
 -- The bytes are a document, whose options are read.
 use Rattle.std.proofs.Common.{inr, subst}
-use Rattle.std.specs.Prelude.{◌≢◌}
-use Rattle.std.proofs.lemmas.Result.{IfErr-weaker, IfOk-weaker, on_ok_weaker}
+use Rattle.std.specs.Prelude.{◌≢◌, IfOk, OnOk}
+use Rattle.std.proofs.lemmas.Result.{IfErr-weaker, on_ok_weaker}
 use Rattle.ld_json.specs.Rules.{Accepts}
-use Rattle.ld_options.specs.Document.{AreOptions, AreOptionsOf, IsRefusal, RefusesDocument}
+use Rattle.ld_options.specs.Document.{AreOptionsOf, IsRefusal, RefusesDocument}
 use Rattle.ld_options.specs.declared.fault.OptionsFault.TheVariants.{Memory}
-use Rattle.ld_options.proofs.ScenarioLemmas.{document_accepts}
+use Rattle.ld_options.proofs.ScenarioLemmas.{document_accepts, read_options}
 use Rattle.ld_options.proofs.options.Options.read.Goals as goal
 
 pub returns-clause-value : goal.returns-clause-value
 returns-clause-value c =
-    IfOk-weaker _ _ (AreOptions c.args.bytes.now) (λ o are. (c.in_ok-doc.doc, c.in_ok-doc.ensures.ok, subst (λ n. AreOptionsOf n o) c.root.ensures are)) c.read_root-2.ensures.value
+    read_options c.args.bytes.now c.in_ok-doc.doc c.read_root-2.result c.in_ok-doc.ensures.ok
+    (subst (λ n. IfOk c.read_root-2.result (AreOptionsOf n)) c.root.ensures c.read_root-2.ensures.value)
+    (subst (λ n. OnOk c.read_root-2.result (Accepts (RefusesDocument n))) c.root.ensures c.read_root-2.ensures.accepted)
 
 pub returns-clause-accepted : goal.returns-clause-accepted
 returns-clause-accepted c =
