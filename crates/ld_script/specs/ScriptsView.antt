@@ -8,3 +8,7 @@ pub record ScriptsView : Type 0 where
   pub names : List (List ℕ)
   pub scripts : List Script
   pub specs : List NameSpec
+
+-- the most scripts that a test may have
+abbrev pub most_scripts : ℕ
+most_scripts = 100
