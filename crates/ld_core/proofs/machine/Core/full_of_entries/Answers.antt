@@ -1,5 +1,5 @@
 use Rattle.ld_core.proofs.ShowsLemmas.{refusal_shown, room_shown, single_shown}
-use Rattle.ld_core.proofs.machine.Core.full.Goals as goal
+use Rattle.ld_core.proofs.machine.Core.full_of_entries.Goals as goal
 
 pub returns-then-needed-limit : goal.returns-then-needed-limit
 returns-then-needed-limit c =
