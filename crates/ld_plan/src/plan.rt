@@ -115,7 +115,8 @@ impl Plan {
 
     /// The options of the test.
     pub fn options(&self) -> &Options
-        ensures { result.now ≡ self.now.options }
+        ensures options { result.now ≡ self.now.options }
+        ensures made { IsMade self.now }
     {
         &self.options
     }
@@ -157,11 +158,11 @@ impl Plan {
         self.entries
     }
 
-    /// How many scenarios there are.
+    /// How many scenarios there are: one at least.
     pub fn scenarios(&self) -> u16
         ensures count { result ≡ length self.now.plan.parts }
         ensures whole { result ≡ length self.now.wholes }
-        ensures made { IsMade self.now }
+        ensures some { 0 < result }
     {
         self.parts.len() as u16
     }

@@ -10,3 +10,9 @@ overflow_cast-result c =
     let one = one_length (plan_view c.self.inside) c.self.invariant in
     let long = length-map c.self.inside.parts.items (λ (v : PartView). v.part) in
     omega arith
+
+pub returns-clause-some : goal.returns-clause-some
+returns-clause-some c =
+    let one = one_length (plan_view c.self.inside) c.self.invariant in
+    let long = length-map c.self.inside.parts.items (λ (v : PartView). v.part) in
+    omega arith
