@@ -1,42 +1,152 @@
+ghost use Rattle.std.specs.Prelude.{◌≡◌, IfOk};
+
+use crate::fault::ScriptFault;
+use crate::members::{members_of, names_of, read_each};
+use crate::names::Names;
 use crate::script::Script;
-use ld_base::{NameSpec, Text};
+use ld_base::Text;
+use ld_json::Node;
+use std::alloc::{AllocError, Global};
 use std::marker::Model;
 
-/// The scripts of a test, in byte order of their names. They are numbered from 0.
+/// The scripts of a test, in byte order of their names. They are numbered from 0. There are at most
+/// 100.
 #[derive(Drop)]
 pub struct Scripts {
     names: Vec<Text>,
     scripts: Vec<Script>,
-    specs: Vec<NameSpec>,
+    used: Names,
 }
 
 impl Model for Scripts {
-    ghost use Rattle.std.specs.Prelude.{◌≡◌, ◌≤◌, length};
-    ghost use Rattle.ld_script.specs.ScriptsView.{ScriptsView, most_scripts};
+    ghost use Rattle.ld_script.specs.ScriptsView.{AreScripts, ScriptsView};
 
     ghost Value = { ScriptsView };
 
-    ghost view = { λ s. record { names = s.names.items; scripts = s.scripts.items; specs = s.specs.items } };
+    ghost view = { λ s. record { names = s.names.items; scripts = s.scripts.items; texts = s.used.texts; specs = s.used.specs } };
 
-    ghost invariant = { λ s. (length s.names.items ≡ length s.scripts.items) × (length s.scripts.items ≤ most_scripts) };
+    ghost invariant = { λ s. AreScripts s.names.items s.scripts.items };
 }
 
 impl Scripts {
-    ghost use Rattle.std.specs.Prelude.{◌≡◌, ◌<◌, Some, length, slice_get};
+    ghost use Rattle.std.specs.Prelude.{◌≡◌, ◌≢◌, ◌<◌, Some, IfErr, IfOk, MatchOption, OnOk, length, slice_get};
+    ghost use Rattle.ld_json.specs.Rules.{Accepts};
+    ghost use Rattle.ld_script.specs.Name.{Lacks};
+    ghost use Rattle.ld_script.specs.Refusal.{RefusesScripts, RefusesTable};
+    ghost use Rattle.ld_script.specs.Scripts.{AreScriptsOf};
+    ghost use Rattle.ld_script.specs.ScriptsView.{AreScripts};
+    ghost use Rattle.ld_script.specs.declared.fault.ScriptFault.{ScriptFault};
 
-    /// How many scripts there are, at most 100. Takes no memory.
-    pub fn count(&self) -> u16
-        ensures count { result ≡ length self.now.scripts }
-        ensures named { length self.now.names ≡ length self.now.scripts }
+    /// Whether the value at `scripts` may be an object of scripts. What stands in its members isn't
+    /// looked at.
+    ///
+    /// Refused are, in this order, a value that is no object, as `WrongKind`, and an object of more
+    /// than 100 members, as `Range`, each at the value's path. The only other error is want of
+    /// memory.
+    pub fn check(alloc: Global, node: &Node<'_>) -> Result<(), ScriptFault>
+        ensures accepted { OnOk result (Accepts (RefusesTable node.now)) }
+        ensures refused { IfErr result (λ f. f ≢ ScriptFault.Memory → RefusesTable node.now f) }
     {
-        self.scripts.len() as u16
+        members_of(alloc, node)?;
+        Ok(())
     }
 
-    /// The script of a number, which is below how many there are. Takes no memory.
+    /// Reads the scripts that stand in the value at `scripts`: each member is one, under its name.
+    ///
+    /// First is refused what `check` refuses. Then the first script is refused, in byte order of
+    /// names, whose name is none, as `BadName`, or else whose value is no list, as `WrongKind`, or
+    /// else has a step, as `Range`, each at the script's path. The only other error is want of
+    /// memory.
+    pub fn read(alloc: Global, node: &Node<'_>) -> Result<Scripts, ScriptFault>
+        ensures value { IfOk result (AreScriptsOf node.now) }
+        ensures scripts { IfOk result (λ s. AreScripts s.names s.scripts) }
+        ensures accepted { IfOk result (λ _. Accepts (RefusesScripts node.now)) }
+        ensures refused { IfErr result (λ f. f ≢ ScriptFault.Memory → RefusesScripts node.now f) }
+    {
+        let members = members_of(alloc, node)?;
+        let scripts = read_each(alloc, &members)?;
+        let names = names_of(alloc, members)?;
+        Ok(Scripts {
+            names,
+            scripts,
+            used: Names::new(alloc),
+        })
+    }
+
+    /// The number of the script of this name, or None exactly where there is none.
+    pub fn find(&self, name: &str) -> Option<u16>
+        ensures found { MatchOption result
+            (Lacks self.now.names name.now)
+            (λ at. slice_get self.now.names at ≡ Some name.now) }
+        ensures scripts { AreScripts self.now.names self.now.scripts }
+    {
+        for (at, text) in self.names.iter().enumerate() {
+            if text.as_slice() == name.as_bytes() {
+                return Some(at as u16);
+            }
+        }
+        None
+    }
+
+    /// How many scripts there are: at most 100.
+    pub fn count(&self) -> u16
+        ensures count { result ≡ length self.now.names }
+        ensures scripts { AreScripts self.now.names self.now.scripts }
+    {
+        self.names.len() as u16
+    }
+
+    /// The script of this number.
     pub fn script(&self, at: u16) -> &Script
-        requires { at < length self.now.scripts }
+        requires { at < length self.now.names }
         ensures { slice_get self.now.scripts at ≡ Some result.now }
     {
         &self.scripts[at as usize]
     }
+
+    /// The name of the script of this number.
+    pub fn name(&self, at: u16) -> &Text
+        requires { at < length self.now.names }
+        ensures { slice_get self.now.names at ≡ Some result.now }
+    {
+        &self.names[at as usize]
+    }
+
+    /// The names that the steps of all scripts use.
+    pub fn names(&self) -> &Names
+        ensures { result.now ≡ record { texts = self.now.texts; specs = self.now.specs } }
+    {
+        &self.used
+    }
+
+    /// The same scripts.
+    ///
+    /// Fails where there is no memory for them.
+    pub fn copy(&self, alloc: Global) -> Result<Scripts, ScriptFault>
+        ensures value { IfOk result (λ s. s ≡ self.now) }
+        ensures memory { IfErr result (λ f. f ≡ ScriptFault.Memory) }
+    {
+        let names = copy_texts(alloc, &self.names)?;
+        let scripts = Vec::from_slice(alloc, self.scripts.as_slice())?;
+        let used = self.used.copy(alloc)?;
+        Ok(Scripts {
+            names,
+            scripts,
+            used,
+        })
+    }
+}
+
+// The same texts.
+fn copy_texts(alloc: Global, texts: &[Text]) -> Result<Vec<Text>, AllocError>
+    ensures { IfOk result (λ copies. copies.items ≡ texts.now) }
+{
+    let mut copies = Vec::new(alloc);
+    for text in texts {
+        let bytes = Vec::from_slice(alloc, text.as_slice())?;
+        let Ok(()) = copies.push(Text::of(bytes)) else {
+            return Err(AllocError);
+        };
+    }
+    Ok(copies)
 }

@@ -1,0 +1,5 @@
+pub mod NamesLemmas
+pub mod NumberLemmas
+pub mod OneRefusalLemmas
+pub mod TableLemmas
+pub mod TextLemmas

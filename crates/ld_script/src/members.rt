@@ -1,0 +1,76 @@
+// The members of the object that holds the scripts.
+ghost use Rattle.std.specs.Prelude.{◌≡◌, ◌≢◌, ◌≤◌, All, IfErr, IfOk, length, map};
+ghost use Rattle.ld_json.specs.Rules.{Accepts, FirstOf};
+ghost use Rattle.ld_script.specs.Name.{IsName};
+ghost use Rattle.ld_script.specs.Refusal.{RefusesScript, RefusesTable, members_of};
+ghost use Rattle.ld_script.specs.Scripts.{name_of, script_of};
+ghost use Rattle.ld_script.specs.ScriptsView.{AreOrdered, most_scripts};
+ghost use Rattle.ld_script.specs.declared.fault.ScriptFault.{ScriptFault};
+
+use crate::fault::ScriptFault;
+use crate::script::Script;
+use ld_base::Text;
+use ld_json::Node;
+use std::alloc::{AllocError, Global};
+
+/// The greatest number of scripts.
+const MOST_SCRIPTS: usize = 100;
+
+// The members, in byte order of their names.
+pub fn members_of<'a>(
+    alloc: Global,
+    node: &'a Node<'_>,
+) -> Result<Vec<(Text, Node<'a>)>, ScriptFault>
+    ensures value { IfOk result (λ members. members.items ≡ members_of node.now) }
+    ensures ordered { IfOk result (λ members. AreOrdered (map name_of members.items)) }
+    ensures few { IfOk result (λ members. length members.items ≤ most_scripts) }
+    ensures accepted { IfOk result (λ _. Accepts (RefusesTable node.now)) }
+    ensures refused { IfErr result (λ f. f ≢ ScriptFault.Memory → RefusesTable node.now f) }
+{
+    let members = node.pairs(alloc)?;
+    if members.len() > MOST_SCRIPTS {
+        return Err(range_fault(alloc, node));
+    }
+    Ok(members)
+}
+
+// The script of each member. The first of them that is refused decides.
+pub fn read_each(alloc: Global, members: &[(Text, Node<'_>)]) -> Result<Vec<Script>, ScriptFault>
+    ensures value { IfOk result (λ scripts. scripts.items ≡ map script_of members.now) }
+    ensures named { IfOk result (λ _. All IsName (map name_of members.now)) }
+    ensures accepted { IfOk result (λ _. Accepts (FirstOf RefusesScript members.now)) }
+    ensures refused { IfErr result (λ f. f ≢ ScriptFault.Memory
+        → FirstOf RefusesScript members.now f) }
+{
+    let mut scripts = Vec::new(alloc);
+    for (name, node) in members {
+        let script = Script::read(alloc, name, node)?;
+        let Ok(()) = scripts.push(script) else {
+            return Err(ScriptFault::Memory);
+        };
+    }
+    Ok(scripts)
+}
+
+// The names of members.
+pub fn names_of(alloc: Global, members: Vec<(Text, Node<'_>)>) -> Result<Vec<Text>, AllocError>
+    ensures { IfOk result (λ names. names.items ≡ map name_of members.entry.items) }
+{
+    let mut names = Vec::new(alloc);
+    for (name, _) in members {
+        let Ok(()) = names.push(name) else {
+            return Err(AllocError);
+        };
+    }
+    Ok(names)
+}
+
+// The fault of a value that is out of its range, or that memory is missing.
+pub fn range_fault(alloc: Global, node: &Node<'_>) -> ScriptFault
+    ensures { result ≢ ScriptFault.Memory → result ≡ ScriptFault.Range node.now.path }
+{
+    match node.path(alloc) {
+        Ok(path) => ScriptFault::Range(path),
+        Err(_) => ScriptFault::Memory,
+    }
+}
