@@ -1,5 +1,5 @@
 -- What an ask for an act gives, where there is one scenario.
-use Rattle.std.proofs.Common.{◌≡◌, ◌≢◌, ◌≤◌, ◌<◌, ◌+◌, ◌&&◌, nat_lt, ℕ, Bool, true, false, cond, List, [], ◌∷◌, ◌++◌, Option, None, Some, Contains, map, filter, length, arith, refl, ap, sym, subst, inl, inr, ◌∙◌}
+use Rattle.std.proofs.Common.{◌≡◌, ◌≢◌, ◌≤◌, ◌<◌, ◌+◌, ◌*◌, ◌&&◌, nat_lt, ℕ, Bool, true, false, cond, List, [], ◌∷◌, ◌++◌, Option, None, Some, Contains, map, filter, length, arith, refl, ap, ap₂, sym, subst, inl, inr, ◌∙◌}
 use Rattle.std.specs.Prelude.{find, is_some, option_map}
 use Rattle.std.specs.Option.{option_map_or}
 use Rattle.std.proofs.lemmas.Grind.{common_steps}
@@ -9,7 +9,8 @@ use Rattle.ld_base.specs.declared.ask.Ask.TheVariants as asks
 use Rattle.ld_base.specs.declared.entry.Entry.{Entry}
 use Rattle.ld_base.specs.declared.reply.Reply.{Reply}
 use Rattle.ld_base.specs.declared.reply.Reply.TheVariants.{Full, Wait}
-use Rattle.ld_base.specs.declared.reply.Room.TheVariants.{Entries}
+use Rattle.ld_base.specs.declared.reply.Room.TheVariants.{Entries, Samples}
+use Rattle.ld_base.specs.declared.reply.Room.{Room}
 use Rattle.ld_machine.specs.Plan.{Arrival, Plan}
 use Rattle.ld_machine.specs.State.{Idle, HeldUser, State, all_closed, busy_users, free_users, idle_users, is_busy, held_count}
 use Rattle.ld_machine.specs.Scenario.{Scenario, due_arrival, first_of, has_ended, is_due, least_open_arrival, least_open_item, may_hold_more, runs, where_holds}
@@ -17,7 +18,7 @@ use Rattle.ld_machine.specs.Moves.{Answer, CountLate, StartOn, GrowAndStart, Tak
 use Rattle.ld_machine.specs.Order.{first_moves}
 use Rattle.ld_machine.specs.Acts.{acts_of, added_entries, made_busy, scenario_of}
 use Rattle.ld_machine.specs.Replies.{reply_to}
-use Rattle.ld_machine.specs.Room.{entries_refusal, entries_with, room_refusal}
+use Rattle.ld_machine.specs.Room.{entries_refusal, entries_with, or_else, room_refusal, samples_refusal, samples_with}
 use Rattle.ld_machine.specs.Wait.{wait_moment}
 use Rattle.ld_machine.specs.Effect.{hold, with_user}
 use Rattle.ld_machine.specs.Step.{IsStep, act_results, answered, entries_of, move_result, open_results, performed}
@@ -25,12 +26,12 @@ use Rattle.ld_machine.proofs.ListLemmas.{In, here, nothing_in, Contains-from_In,
 use Rattle.ld_machine.proofs.SourceLemmas.{Source, by_stop, by_release, by_take, by_arrival, by_start, by_drop, by_close, In-cond, on_answer, grow_answer}
 use Rattle.ld_rates.proofs.FirstLemmas.{map-In}
 use Rattle.ld_rates.proofs.KeptLemmas.{item_of_least}
-use Rattle.ld_core.specs.Changes.{HasRoom, IsIdleUser, IsNextItem, MayHoldMore}
+use Rattle.ld_core.specs.Changes.{HasRoom, HasSampleRoom, IsIdleUser, IsNextItem, MayHoldMore}
 use Rattle.ld_core.specs.CoreView.{Adds, CoreView, IsAsked, next_entry, plan_of, state_of}
 use Rattle.ld_core.specs.Firsts.{IsFirst, IsFirstTakeFor}
-use Rattle.ld_core.specs.Single.{IsSingle}
+use Rattle.ld_core.specs.Single.{IsSingle, refusal_with}
 use Rattle.ld_core.proofs.HistoryLemmas.{entries_counted, state_added}
-use Rattle.ld_core.proofs.OneLemmas.{IsOne, scenario_in, of_scenario, to_scenario, busy_one, room_one, source_first}
+use Rattle.ld_core.proofs.OneLemmas.{IsOne, scenario_in, of_scenario, to_scenario, busy_one, room_one, samples_one, source_first}
 
 nothing_more : (es : List Entry) → es ≡ es ++ []
 nothing_more es = grind (arith, common_steps)
@@ -71,16 +72,35 @@ waits core thread t moment goes_on none is =
       plan = refl;
     }
 
--- there is room where there is no refusal
-pub room_left : (core : CoreView) (added busy : ℕ) → None ≡ entries_refusal (plan_of core) (state_of core) added busy → HasRoom core added busy
-room_left core added busy h =
-    let P : Bool → Type 0 = λ b. nat_lt (plan_of core).entry_limit (entries_with (state_of core) added busy) ≡ b →
-    None ≡ cond b (Some (Full Entries (entries_with (state_of core) added busy) (plan_of core).entry_limit)) None → HasRoom core added busy in
-    let from : P (nat_lt (plan_of core).entry_limit (entries_with (state_of core) added busy)) =
-    elim (nat_lt (plan_of core).entry_limit (entries_with (state_of core) added busy)) as P [
+-- without the first refusal and the second there is neither
+none_first : (first other : Option Reply) → None ≡ or_else first other → None ≡ first
+none_first None other h = refl
+none_first (Some reply) other h = h
+
+none_second : (first other : Option Reply) → None ≡ or_else first other → None ≡ other
+none_second None other h = h
+none_second (Some reply) other h = absurd (cc)
+
+-- what isn't refused for this limit is within it
+not_over : (limit needed : ℕ) (room : Room) → None ≡ cond (nat_lt limit needed) (Some (Full room needed limit)) None → needed ≤ limit
+not_over limit needed room h =
+    let P : Bool → Type 0 = λ b. nat_lt limit needed ≡ b → None ≡ cond b (Some (Full room needed limit)) None → needed ≤ limit in
+    let from : P (nat_lt limit needed) = elim (nat_lt limit needed) as P [
       | true ↦ λ e none. absurd (cc)
       | false ↦ λ e none. grind (arith, common_steps)
     ] in from refl h
+
+-- there is room where there is no refusal
+pub room_left : (core : CoreView) (added busy : ℕ) → None ≡ refusal_with (plan_of core) (state_of core) added busy → HasRoom core added busy
+room_left core added busy h =
+    not_over (plan_of core).entry_limit (entries_with (state_of core) added busy) Entries
+    (none_first (entries_refusal (plan_of core) (state_of core) added busy) _ h)
+
+-- for the samples too, where an iteration is started
+pub samples_left : (core : CoreView) (added : ℕ) → None ≡ refusal_with (plan_of core) (state_of core) added 1 → HasSampleRoom core
+samples_left core added h =
+    not_over (plan_of core).entry_limit (samples_with (plan_of core) (state_of core) 0) Samples
+    (none_second (entries_refusal (plan_of core) (state_of core) added 1) (samples_refusal (plan_of core) (state_of core) 0) h)
 
 -- an idle user more is no busy one
 idle_more : (user slot : ℕ) (held : List HeldUser) → filter is_busy (with_user (record { user = user; slot = slot; condition = Idle }) held) ≡ filter is_busy held
@@ -106,9 +126,9 @@ module _ (core : CoreView) (single : IsSingle core) (thread t : ℕ) where
   -- ---- what is answered
 
   pub refused_act : (move : Move) (reply : Reply) → IsFirst core t move → scenario_of move ≡ 0 →
-      Some reply ≡ entries_refusal plan state (added_entries move) (made_busy move) → IsAsked core core thread asks.Act t reply
+      Some reply ≡ refusal_with plan state (added_entries move) (made_busy move) → IsAsked core core thread asks.Act t reply
   refused_act move reply first of_it refusal =
-      let why : room_refusal plan state move ≡ Some reply = room_one plan state single.part single.share one single.no_samples single.samples move of_it ∙ sym refusal in
+      let why : room_refusal plan state move ≡ Some reply = room_one plan state single.part single.share one move of_it ∙ sym refusal in
       let gives : move_result plan state thread t move ≡ answered state reply = rw why refl in
       record {
         result = answered state reply;
@@ -118,10 +138,10 @@ module _ (core : CoreView) (single : IsSingle core) (thread t : ℕ) where
         plan = refl;
       }
 
-  performs : (move : Move) → IsFirst core t move → scenario_of move ≡ 0 → None ≡ entries_refusal plan state (added_entries move) (made_busy move) →
+  performs : (move : Move) → IsFirst core t move → scenario_of move ≡ 0 → None ≡ refusal_with plan state (added_entries move) (made_busy move) →
       IsStep plan state thread asks.Act t (performed plan state thread t (reply_to move) (acts_of move))
   performs move first of_it refusal =
-      let why : room_refusal plan state move ≡ None = room_one plan state single.part single.share one single.no_samples single.samples move of_it ∙ sym refusal in
+      let why : room_refusal plan state move ≡ None = room_one plan state single.part single.share one move of_it ∙ sym refusal in
       let gives : move_result plan state thread t move ≡ performed plan state thread t (reply_to move) (acts_of move) = rw why refl in
       subst (λ r. IsStep plan state thread asks.Act t r) gives (first_steps plan state thread t move first.goes_on first.first)
 
@@ -129,7 +149,7 @@ module _ (core : CoreView) (single : IsSingle core) (thread t : ℕ) where
   next_turn = let total = entries_counted plan core.entries in omega arith
 
   pub performed_act : (move : Move) (act : Act) (new : CoreView) → IsFirst core t move → scenario_of move ≡ 0 → acts_of move ≡ act ∷ [] →
-      None ≡ entries_refusal plan state (added_entries move) (made_busy move) → Adds core new thread t act → IsAsked core new thread asks.Act t (reply_to move)
+      None ≡ refusal_with plan state (added_entries move) (made_busy move) → Adds core new thread t act → IsAsked core new thread asks.Act t (reply_to move)
   performed_act move act new first of_it acts refusal adds =
       let writes : entries_of (state.entries + 1) thread t (acts_of move) ≡ next_entry core thread t act ∷ [] = rw (acts, next_turn) refl in
       record {
@@ -147,7 +167,7 @@ module _ (core : CoreView) (single : IsSingle core) (thread t : ℕ) where
       omega arith
 
   pub performed_two : (move : Move) (act later : Act) (mid new : CoreView) → IsFirst core t move → scenario_of move ≡ 0 → acts_of move ≡ act ∷ later ∷ [] →
-      None ≡ entries_refusal plan state (added_entries move) (made_busy move) → Adds core mid thread t act → Adds mid new thread t later →
+      None ≡ refusal_with plan state (added_entries move) (made_busy move) → Adds core mid thread t act → Adds mid new thread t later →
       IsAsked core new thread asks.Act t (reply_to move)
   performed_two move act later mid new first of_it acts refusal adds more =
       let writes : entries_of (state.entries + 1) thread t (acts_of move) ≡ next_entry core thread t act ∷ next_entry mid thread t later ∷ [] =
@@ -280,6 +300,7 @@ module _ (core : CoreView) (single : IsSingle core) (thread t : ℕ) where
     pub slot : ℕ
     pub shares : (state_of mid).shares ≡ hold user slot single.share ∷ []
     pub entries : (state_of mid).entries ≡ state.entries + 1
+    pub samples : (state_of mid).samples ≡ state.samples
     pub controls : (state_of mid).controls ≡ state.controls
     pub same_plan : plan_of mid ≡ plan
 
@@ -291,6 +312,7 @@ module _ (core : CoreView) (single : IsSingle core) (thread t : ℕ) where
         slot = slot;
         shares = ap (λ (x : State). x.shares) behind ∙ rw single.shares refl;
         entries = ap (λ (x : State). x.entries) behind;
+        samples = ap (λ (x : State). x.samples) behind;
         controls = ap (λ (x : State). x.controls) behind;
         same_plan = rw adds.plan refl;
       }
@@ -303,6 +325,7 @@ module _ (core : CoreView) (single : IsSingle core) (thread t : ℕ) where
         slot = slot;
         shares = ap (λ (x : State). x.shares) behind ∙ rw single.shares refl;
         entries = ap (λ (x : State). x.entries) behind;
+        samples = ap (λ (x : State). x.samples) behind;
         controls = ap (λ (x : State). x.controls) behind;
         same_plan = rw adds.plan refl;
       }
@@ -327,10 +350,23 @@ module _ (core : CoreView) (single : IsSingle core) (thread t : ℕ) where
       let enough : entries_with (state_of mid) 1 1 ≤ (plan_of mid).entry_limit = omega arith in
       enough
 
+  pub samples_still : (mid : CoreView) → Holds mid → HasSampleRoom core → HasSampleRoom mid
+  samples_still mid holds room =
+      let now = samples_one plan state single.part single.share one in
+      let later = samples_one (plan_of mid) (state_of mid) single.part (hold holds.user holds.slot single.share) (one_behind_hold mid holds) in
+      let same : length (busy_users (hold holds.user holds.slot single.share)) ≡ length (busy_users single.share) =
+      ap (λ (hs : List HeldUser). length hs) (idle_more holds.user holds.slot single.share.held) in
+      let most : (plan_of mid).entry_limit ≡ plan.entry_limit = ap (λ (p : Plan). p.entry_limit) holds.same_plan in
+      let equal : samples_with (plan_of mid) (state_of mid) 0 ≡ samples_with plan state 0 =
+      later ∙ ap₂ (λ (samples busy : ℕ). samples + (busy + 1) * single.part.sample_room) holds.samples same ∙ sym now in
+      let few : samples_with plan state 0 ≤ plan.entry_limit = room in
+      let enough : samples_with (plan_of mid) (state_of mid) 0 ≤ (plan_of mid).entry_limit = omega arith in
+      enough
+
   -- the same of an act with each free user
   pub refused_with : (move : ℕ → Move) (reply : Reply) → free_users state ≢ [] → ((user : ℕ) → Contains (free_users state) user → IsFirst core t (move user)) →
       ((user : ℕ) → scenario_of (move user) ≡ 0) → (added busy : ℕ) →
-      ((user : ℕ) → added_entries (move user) ≡ added) → ((user : ℕ) → made_busy (move user) ≡ busy) → Some reply ≡ entries_refusal plan state added busy →
+      ((user : ℕ) → added_entries (move user) ≡ added) → ((user : ℕ) → made_busy (move user) ≡ busy) → Some reply ≡ refusal_with plan state added busy →
       IsAsked core core thread asks.Act t reply
   refused_with move reply some each of_it added busy adds makes refusal =
       let found = some_user (free_users state) some in

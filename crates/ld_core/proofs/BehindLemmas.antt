@@ -1,7 +1,8 @@
 -- The parts of a core show the state behind an entry.
-use Rattle.std.proofs.Common.{◌≡◌, ◌<◌, ◌≤◌, ◌+◌, ◌-◌, ◌==◌, ℕ, Bool, true, false, cond, List, [], ◌∷◌, ◌++◌, Option, None, Some, append-nil, map, flat_map, length, set, slice_get, refl, sym, ap, ap₂, ◌∙◌, subst, arith}
+use Rattle.std.proofs.Common.{◌≡◌, ◌<◌, ◌≤◌, ◌+◌, ◌*◌, ◌-◌, ◌==◌, ℕ, Bool, true, false, cond, List, [], ◌∷◌, ◌++◌, Option, None, Some, append-nil, map, flat_map, length, set, slice_get, refl, sym, ap, ap₂, ◌∙◌, subst, arith}
 use Rattle.std.specs.Prelude.{IsSomeAnd}
 use Rattle.std.specs.List.{list_any}
+use Rattle.std.proofs.Math.Nat.{suc-mul}
 use Rattle.std.specs.Option.{option_map_or}
 use Rattle.ld_base.specs.Tally.{TallyView}
 use Rattle.ld_base.specs.declared.act.Act.{Act}
@@ -13,7 +14,7 @@ use Rattle.ld_machine.specs.State.{Condition, Idle, Busy, Controls, Halted, Held
 use Rattle.ld_machine.specs.Commands.{stop_commanded_share}
 use Rattle.ld_machine.specs.Effect.{hold, put_condition, let_go, end_item, end_item_of, change_at, change_share, after_entry, count_entry}
 use Rattle.ld_machine.specs.Moves.{scenarios, scenarios_with}
-use Rattle.ld_machine.specs.Room.{entries_with}
+use Rattle.ld_machine.specs.Room.{entries_with, samples_with}
 use Rattle.ld_machine.specs.Scenario.{Scenario}
 use Rattle.ld_pool.specs.Pool.{PoolView}
 use Rattle.ld_pool.specs.declared.user.User.{User}
@@ -24,6 +25,7 @@ use Rattle.ld_core.specs.BusyUsers as table
 use Rattle.ld_core.specs.Shows.{Shows, condition_busy}
 use Rattle.ld_core.specs.declared.busy.Busy as playing
 use Rattle.ld_core.proofs.HeldLemmas.{among}
+use Rattle.ld_core.proofs.OneLemmas.{samples_one}
 use Rattle.ld_core.proofs.BusyLemmas.{count_changed}
 use Rattle.ld_core.proofs.PartsLemmas.{Parts, busy_long, busy_said, busy_of_condition, busy_counted, parts_taken, parts_grown, parts_put, parts_released}
 
@@ -52,20 +54,24 @@ module _ {plan : Plan} {pool : PoolView} {kept : RatesView} {busy : List (Option
   pub table_counted : table.busy_count busy ≡ busy_count state
   table_counted = busy_counted parts_shown ∙ sym busy_shown
 
+  -- what is out now has room for its samples
+  pub space_shown : state.samples + table.busy_count busy * shows.part.sample_room ≤ plan.entry_limit
+  space_shown = subst (λ (n : ℕ). state.samples + n * shows.part.sample_room ≤ plan.entry_limit) (sym (table_counted ∙ busy_shown)) shows.sample_room
+
 -- ---- a state behind another
 
 pub shows_behind : {plan : Plan} {pool : PoolView} {kept : RatesView} {busy : List (Option playing.Busy)} {stopped : Bool} {state : State} → (shows : Shows plan pool kept busy stopped state) →
     (pool' : PoolView) (kept' : RatesView) (busy' : List (Option playing.Busy)) (stopped' : Bool) (state' : State) (share : Share) →
     state'.shares ≡ share ∷ [] → rates.Shows kept' (record { part = shows.part; share = share; controls = state.controls }) →
     Parts state'.made plan.limit pool'.users busy' share.held → pool'.limit ≡ pool.limit → state'.controls ≡ state.controls →
-    stopped' ≡ state'.stop_commanded → state'.samples ≡ state.samples → state'.entries + table.busy_count busy' ≤ plan.entry_limit →
+    stopped' ≡ state'.stop_commanded → state'.samples + table.busy_count busy' * shows.part.sample_room ≤ plan.entry_limit →
+    state'.entries + table.busy_count busy' ≤ plan.entry_limit →
     Shows plan pool' kept' busy' stopped' state'
-shows_behind {plan} {pool} {kept} {busy} {stopped} {state} shows pool' kept' busy' stopped' state' share shares follows parts limit controls stop samples room =
+shows_behind {plan} {pool} {kept} {busy} {stopped} {state} shows pool' kept' busy' stopped' state' share shares follows parts limit controls stop space room =
     let counted = busy_counted parts in
     record {
       part = shows.part;
       parts = shows.parts;
-      no_samples = shows.no_samples;
       share = share;
       shares = shares;
       rates = subst (λ (c : Controls). rates.Shows kept' (record { part = shows.part; share = share; controls = c })) (sym controls) follows;
@@ -77,8 +83,8 @@ shows_behind {plan} {pool} {kept} {busy} {stopped} {state} shows pool' kept' bus
       busy_is = parts.busy_is;
       stop = stop;
       controls = controls ∙ shows.controls;
-      samples = samples ∙ shows.samples;
       room = omega (arith, room, counted);
+      sample_room = subst (λ (n : ℕ). state'.samples + n * shows.part.sample_room ≤ plan.entry_limit) counted space;
     }
 
 -- ---- items
@@ -100,6 +106,13 @@ stopped_held t share =
 parts_held : {made limit : ℕ} {pool_users : List User} {busy : List (Option playing.Busy)} {held : List HeldUser} → Parts made limit pool_users busy held → (new : List HeldUser) → new ≡ held → Parts made limit pool_users busy new
 parts_held {made} {limit} {pool_users} {busy} p new is = subst (λ (h : List HeldUser). Parts made limit pool_users busy h) (sym is) p
 
+-- the samples of an iteration take the room that was kept for them
+handed_in : (samples after before room more limit : ℕ) → before ≡ after + 1 → more ≤ room → samples + before * room ≤ limit → samples + more + after * room ≤ limit
+handed_in samples after before room more limit one few space =
+    let next = suc-mul after room in
+    let split : before * room ≡ after * room + room = ap (λ (n : ℕ). n * room) one ∙ omega arith in
+    omega arith
+
 -- ---- act by act
 
 module _ {plan : Plan} {pool : PoolView} {kept : RatesView} {busy : List (Option playing.Busy)} {stopped : Bool} {state : State} (shows : Shows plan pool kept busy stopped state)
@@ -115,7 +128,7 @@ module _ {plan : Plan} {pool : PoolView} {kept : RatesView} {busy : List (Option
       subst (λ (p : PoolView). Shows plan p kept' busy stopped (behind (acts.Take 0 user slot))) (sym is)
       (shows_behind shows (record pool { users = set pool.users (user - 1) (users.Idle 0) }) kept' busy stopped (behind (acts.Take 0 user slot)) (hold user slot shows.share)
       (ap (change_at 0 (hold user slot)) shows.shares) (follows (scenario_shown shows) thread shows.rates)
-      (parts_taken (parts_shown shows) user slot free some made) refl refl shows.stop refl (omega (arith, room, many)))
+      (parts_taken (parts_shown shows) user slot free some made) refl refl shows.stop (space_shown shows) (omega (arith, room, many)))
 
   pub shows_grown : (pool' : PoolView) (user slot : ℕ) → rates.Follows kept kept' (acts.Grow 0 user slot) t → entries_with state 1 0 ≤ plan.entry_limit →
       state.made < plan.limit → user ≡ state.made + 1 → pool' ≡ record pool { users = pool.users ++ users.Idle 0 ∷ [] } →
@@ -128,7 +141,7 @@ module _ {plan : Plan} {pool : PoolView} {kept : RatesView} {busy : List (Option
       (subst (λ (p : PoolView). Shows plan p kept' busy stopped (behind (acts.Grow 0 last slot))) (sym is)
       (shows_behind shows (record pool { users = pool.users ++ users.Idle 0 ∷ [] }) kept' busy stopped (behind (acts.Grow 0 last slot)) (hold last slot shows.share)
       (ap (change_at 0 (hold last slot)) shows.shares) (follows_last (scenario_shown shows) thread shows.rates)
-      (parts_grown (parts_shown shows) slot below) refl refl shows.stop refl (omega (arith, room, many))))
+      (parts_grown (parts_shown shows) slot below) refl refl shows.stop (space_shown shows) (omega (arith, room, many))))
 
   pub shows_released : (pool' : PoolView) (user : ℕ) (h : HeldUser) → rates.Follows kept kept' (acts.Release 0 user) t → entries_with state 1 0 ≤ plan.entry_limit →
       among shows.share.held user ≡ Some h → h.condition ≡ Idle → 1 ≤ user → pool' ≡ record pool { users = set pool.users (user - 1) users.Free } →
@@ -138,14 +151,14 @@ module _ {plan : Plan} {pool : PoolView} {kept : RatesView} {busy : List (Option
       subst (λ (p : PoolView). Shows plan p kept' busy stopped (behind (acts.Release 0 user))) (sym is)
       (shows_behind shows (record pool { users = set pool.users (user - 1) users.Free }) kept' busy stopped (behind (acts.Release 0 user)) (let_go user shows.share)
       (ap (change_at 0 (let_go user)) shows.shares) (follows (scenario_shown shows) thread shows.rates)
-      (parts_released (parts_shown shows) user h found idle some) refl refl shows.stop refl (omega (arith, room, many)))
+      (parts_released (parts_shown shows) user h found idle some) refl refl shows.stop (space_shown shows) (omega (arith, room, many)))
 
   pub shows_started : (pool' : PoolView) (busy' : List (Option playing.Busy)) (user item until : ℕ) (h : HeldUser) → rates.Follows kept kept' (acts.Start 0 user item until) t →
-      entries_with state 1 1 ≤ plan.entry_limit → among shows.share.held user ≡ Some h → h.condition ≡ Idle → 1 ≤ user → user ≤ state.made →
+      entries_with state 1 1 ≤ plan.entry_limit → samples_with plan state 0 ≤ plan.entry_limit → among shows.share.held user ≡ Some h → h.condition ≡ Idle → 1 ≤ user → user ≤ state.made →
       pool' ≡ record pool { users = set pool.users (user - 1) (users.Busy 0 item until) } →
       busy' ≡ set busy (user - 1) (Some (record { thread = thread; scenario = 0; item = item; until = until })) →
       Shows plan pool' kept' busy' stopped (behind (acts.Start 0 user item until))
-  shows_started pool' busy' user item until h follows room found idle some made pool_is busy_is =
+  shows_started pool' busy' user item until h follows room space found idle some made pool_is busy_is =
       let condition : Condition = Busy thread item until in
       let one : playing.Busy = record { thread = thread; scenario = 0; item = item; until = until } in
       let put : Share = put_condition user condition shows.share in
@@ -156,11 +169,16 @@ module _ {plan : Plan} {pool : PoolView} {kept : RatesView} {busy : List (Option
       let long : length busy ≡ plan.limit = busy_long p in
       let unbusy : table.busy_at busy user ≡ None = busy_said p user some within ∙ busy_of_condition (among shows.share.held user) h found ∙ ap condition_busy idle in
       let counted = count_changed busy user None (Some one) some (omega arith) unbusy in
+      let with_it : state.samples + (table.busy_count busy + 1) * shows.part.sample_room ≤ plan.entry_limit =
+      subst (λ (n : ℕ). state.samples + (n + 1) * shows.part.sample_room ≤ plan.entry_limit) (sym (many ∙ busy_shown shows))
+      (subst (λ (n : ℕ). n ≤ plan.entry_limit) (samples_one plan state shows.part shows.share (record { parts = shows.parts; shares = shows.shares })) space) in
+      let one_more : table.busy_count (set busy (user - 1) (Some one)) ≡ table.busy_count busy + 1 = omega arith in
       let changed = parts_held (parts_put p user condition h found some) (end_item shows.part item put).held (ended_held shows.part item put) in
       let now = shows_behind shows (record pool { users = set pool.users (user - 1) (users.Busy 0 item until) }) kept' (set busy (user - 1) (Some one)) stopped
       (count_entry (change_share held_state 0 (end_item shows.part item))) (end_item shows.part item put)
       (ap (λ (shares : List Share). change_at 0 (end_item shows.part item) (change_at 0 (put_condition user condition) shares)) shows.shares)
-      (follows (scenario_shown shows) thread shows.rates) changed refl refl shows.stop refl (omega (arith, room, many, counted)) in
+      (follows (scenario_shown shows) thread shows.rates) changed refl refl shows.stop
+      (subst (λ (n : ℕ). state.samples + n * shows.part.sample_room ≤ plan.entry_limit) (sym one_more) with_it) (omega (arith, room, many, counted)) in
       let state_is : behind (acts.Start 0 user item until) ≡ count_entry (change_share held_state 0 (end_item shows.part item)) =
       ap count_entry (ended_one plan shows.part item held_state shows.parts) in
       subst (λ (p : PoolView). Shows plan p kept' busy' stopped (behind (acts.Start 0 user item until))) (sym pool_is)
@@ -168,11 +186,11 @@ module _ {plan : Plan} {pool : PoolView} {kept : RatesView} {busy : List (Option
       (subst (λ (st : State). Shows plan (record pool { users = set pool.users (user - 1) (users.Busy 0 item until) }) kept' (set busy (user - 1) (Some one)) stopped st) (sym state_is) now))
 
   pub shows_returned : (pool' : PoolView) (busy' : List (Option playing.Busy)) (user item : ℕ) (outcome : Outcome) (tally : TallyView) (h : HeldUser) (by item' until : ℕ) →
-      rates.Follows kept kept' (acts.Return 0 user item outcome tally) t → length tally.samples ≡ 0 →
+      rates.Follows kept kept' (acts.Return 0 user item outcome tally) t → length tally.samples ≤ shows.part.sample_room →
       among shows.share.held user ≡ Some h → h.condition ≡ Busy by item' until → 1 ≤ user → user ≤ state.made →
       pool' ≡ record pool { users = set pool.users (user - 1) (users.Idle 0) } → busy' ≡ set busy (user - 1) None →
       Shows plan pool' kept' busy' stopped (behind (acts.Return 0 user item outcome tally))
-  shows_returned pool' busy' user item outcome tally h by item' until follows none found plays some made pool_is busy_is =
+  shows_returned pool' busy' user item outcome tally h by item' until follows few found plays some made pool_is busy_is =
       let one : playing.Busy = record { thread = by; scenario = 0; item = item'; until = until } in
       let many = table_counted shows in
       let shown = busy_shown shows in
@@ -184,7 +202,9 @@ module _ {plan : Plan} {pool : PoolView} {kept : RatesView} {busy : List (Option
       let room : state.entries + length (busy_users shows.share) ≤ plan.entry_limit = shows.room in
       let now = shows_behind shows (record pool { users = set pool.users (user - 1) (users.Idle 0) }) kept' (set busy (user - 1) None) stopped
       (behind (acts.Return 0 user item outcome tally)) (put_condition user Idle shows.share) (ap (change_at 0 (put_condition user Idle)) shows.shares)
-      (follows (scenario_shown shows) thread shows.rates) (parts_put p user Idle h found some) refl refl shows.stop (omega arith) (omega (arith, room, many, shown, counted)) in
+      (follows (scenario_shown shows) thread shows.rates) (parts_put p user Idle h found some) refl refl shows.stop
+      (handed_in state.samples (table.busy_count (set busy (user - 1) None)) (table.busy_count busy) shows.part.sample_room (length tally.samples) plan.entry_limit (omega arith) few (space_shown shows))
+      (omega (arith, room, many, shown, counted)) in
       subst (λ (p : PoolView). Shows plan p kept' busy' stopped (behind (acts.Return 0 user item outcome tally))) (sym pool_is)
       (subst (λ (b : List (Option playing.Busy)). Shows plan (record pool { users = set pool.users (user - 1) (users.Idle 0) }) kept' b stopped (behind (acts.Return 0 user item outcome tally))) (sym busy_is) now)
 
@@ -197,7 +217,7 @@ module _ {plan : Plan} {pool : PoolView} {kept : RatesView} {busy : List (Option
       subst (λ (st : State). Shows plan pool kept' busy stopped (count_entry st)) (sym (ended_one plan shows.part item state shows.parts))
       (shows_behind shows pool kept' busy stopped (count_entry (change_share state 0 (end_item shows.part item))) (end_item shows.part item shows.share)
       (ap (change_at 0 (end_item shows.part item)) shows.shares) (subst (λ (x : Share). rates.Shows kept' (record { part = shows.part; share = x; controls = state.controls })) is follows)
-      (parts_held (parts_shown shows) (end_item shows.part item shows.share).held (ended_held shows.part item shows.share)) refl refl shows.stop refl (omega (arith, room, many)))
+      (parts_held (parts_shown shows) (end_item shows.part item shows.share).held (ended_held shows.part item shows.share)) refl refl shows.stop (space_shown shows) (omega (arith, room, many)))
 
   pub shows_dropped : (item : ℕ) → rates.Follows kept kept' (acts.Drop 0 item) t → entries_with state 1 0 ≤ plan.entry_limit →
       Shows plan pool kept' busy stopped (behind (acts.Drop 0 item))
@@ -212,14 +232,14 @@ module _ {plan : Plan} {pool : PoolView} {kept : RatesView} {busy : List (Option
       let many = table_counted shows in
       shows_behind shows pool kept' busy stopped (behind (acts.Stop 0)) (record shows.share { level = Halted })
       (ap (change_at 0 (λ (share : Share). record share { level = Halted })) shows.shares) (follows (scenario_shown shows) thread shows.rates) (parts_shown shows)
-      refl refl shows.stop refl (omega (arith, room, many))
+      refl refl shows.stop (space_shown shows) (omega (arith, room, many))
 
   pub shows_closed : rates.Follows kept kept' (acts.Close 0) t → entries_with state 1 0 ≤ plan.entry_limit → Shows plan pool kept' busy stopped (behind (acts.Close 0))
   shows_closed follows room =
       let many = table_counted shows in
       shows_behind shows pool kept' busy stopped (behind (acts.Close 0)) (record shows.share { closed = true })
       (ap (change_at 0 (λ (share : Share). record share { closed = true })) shows.shares) (follows (scenario_shown shows) thread shows.rates) (parts_shown shows)
-      refl refl shows.stop refl (omega (arith, room, many))
+      refl refl shows.stop (space_shown shows) (omega (arith, room, many))
 
   pub shows_stopped : rates.Follows kept kept' (acts.Control commands.Stop) t → entries_with state 1 0 ≤ plan.entry_limit →
       Shows plan pool kept' busy true (behind (acts.Control commands.Stop))
@@ -227,4 +247,4 @@ module _ {plan : Plan} {pool : PoolView} {kept : RatesView} {busy : List (Option
       let many = table_counted shows in
       shows_behind shows pool kept' busy true (behind (acts.Control commands.Stop)) (stop_commanded_share t shows.share)
       (ap (map (stop_commanded_share t)) shows.shares) (follows (scenario_shown shows) thread shows.rates)
-      (parts_held (parts_shown shows) (stop_commanded_share t shows.share).held (stopped_held t shows.share)) refl refl refl refl (omega (arith, room, many))
+      (parts_held (parts_shown shows) (stop_commanded_share t shows.share).held (stopped_held t shows.share)) refl refl refl (space_shown shows) (omega (arith, room, many))

@@ -1,5 +1,5 @@
 -- What holds of a core, before and behind an entry.
-use Rattle.std.proofs.Common.{◌≡◌, ◌<◌, ◌≤◌, ℕ, Bool, List, [], ◌∷◌, ◌++◌, Option, length, sym, subst, ◌∙◌, ap, arith}
+use Rattle.std.proofs.Common.{◌≡◌, ◌<◌, ◌≤◌, ◌+◌, ℕ, Bool, List, [], ◌∷◌, ◌++◌, Option, length, refl, sym, subst, ◌∙◌, ap, arith}
 use Rattle.std.specs.Prelude.{IsSomeAnd, slice_get}
 use Rattle.ld_base.specs.History.{HistoryView}
 use Rattle.ld_base.specs.declared.act.Act.{Act}
@@ -15,12 +15,13 @@ use Rattle.ld_rates.specs.RatesView.{RatesView}
 use Rattle.ld_rates.specs.Shows as rates
 use Rattle.ld_core.specs.Changes.{HasRoom, IsIdleUser, MayNote, OfScenario}
 use Rattle.ld_core.specs.Core.{IsCore, core_view}
+use Rattle.ld_core.specs.CoreView.{CoreView}
 use Rattle.ld_core.specs.Shows.{Shows}
 use Rattle.ld_core.specs.declared.busy.Busy as playing
 use Rattle.ld_core.specs.declared.machine.Core.TheInside.{Inside}
 use Rattle.ld_core.proofs.FoundLemmas.{Finds, idle_found, next_shown, return_room}
 use Rattle.ld_core.proofs.BehindLemmas.{of_shown, shows_closed, shows_dropped, shows_halted, shows_late}
-use Rattle.ld_core.proofs.StateLemmas.{entries_counted, state_push}
+use Rattle.ld_core.proofs.StateLemmas.{act_samples, entries_counted, samples_behind, state_push}
 
 -- the state behind a core's history
 abbrev pub state_behind : Inside → State
@@ -45,19 +46,31 @@ return_room_in c user thread item until is f =
     let room = return_room is.shows user thread item until f in
     omega arith
 
--- a core goes on with an entry
-pub core_behind : (c : Inside) (pool : PoolView) (scenario : RatesView) (busy : List (Option playing.Busy)) (stopped : Bool) (history : HistoryView) (entry : Entry) →
-    IsCore c → history.entries ≡ c.history.entries ++ entry ∷ [] → history.room ≡ c.history.room →
+-- a core goes on with an entry, which brings so many samples
+pub core_sampled : (c : Inside) (pool : PoolView) (scenario : RatesView) (busy : List (Option playing.Busy)) (stopped : Bool) (samples : ℕ) (history : HistoryView) (entry : Entry) →
+    IsCore c → history.entries ≡ c.history.entries ++ entry ∷ [] → history.room ≡ c.history.room → samples ≡ c.samples + act_samples entry.act →
     Shows c.plan.plan pool scenario busy stopped (after_entry c.plan.plan (state_behind c) entry) →
-    IsCore (record { plan = c.plan; pool = pool; scenario = scenario; busy = busy; stopped = stopped; history = history })
-core_behind c pool scenario busy stopped history entry is entries room shows =
+    IsCore (record { plan = c.plan; pool = pool; scenario = scenario; busy = busy; stopped = stopped; samples = samples; history = history })
+core_sampled c pool scenario busy stopped samples history entry is entries room more shows =
     let state_is : state_after c.plan.plan history.entries ≡ after_entry c.plan.plan (state_behind c) entry =
     ap (state_after c.plan.plan) entries ∙ state_push c.plan.plan c.history.entries entry in
     record {
       shows = subst (λ (s : State). Shows c.plan.plan pool scenario busy stopped s) (sym state_is) shows;
+      samples =
+          more ∙ ap (λ (n : ℕ). n + act_samples entry.act) is.samples
+          ∙ sym (ap (λ (s : State). s.samples) state_is ∙ samples_behind c.plan.plan (state_behind c) entry);
       room = room ∙ is.room;
       few = is.few;
+      most = is.most;
     }
+
+-- and most bring none
+pub core_behind : (c : Inside) (pool : PoolView) (scenario : RatesView) (busy : List (Option playing.Busy)) (stopped : Bool) (history : HistoryView) (entry : Entry) →
+    IsCore c → history.entries ≡ c.history.entries ++ entry ∷ [] → history.room ≡ c.history.room → act_samples entry.act ≡ 0 →
+    Shows c.plan.plan pool scenario busy stopped (after_entry c.plan.plan (state_behind c) entry) →
+    IsCore (record { plan = c.plan; pool = pool; scenario = scenario; busy = busy; stopped = stopped; samples = c.samples; history = history })
+core_behind c pool scenario busy stopped history entry is entries room none shows =
+    core_sampled c pool scenario busy stopped c.samples history entry is entries room (omega arith) shows
 
 -- what holds of the scenario behind an entry
 pub scenario_behind : (c : Inside) (entries : List Entry) (entry : Entry) (P : Scenario → Type 0) → entries ≡ c.history.entries ++ entry ∷ [] →
@@ -81,6 +94,19 @@ may_note c (acts.Start _ _ _ _) is may = absurd may
 may_note c (acts.Return _ _ _ _ _) is may = absurd may
 may_note c (acts.Release _ _) is may = absurd may
 may_note c (acts.Control _) is may = absurd may
+
+-- they bring no samples
+pub noted_samples : (core : CoreView) (act : Act) → MayNote core act → act_samples act ≡ 0
+noted_samples core (acts.Drop n item) may = refl
+noted_samples core (acts.Late n item) may = refl
+noted_samples core (acts.Stop n) may = refl
+noted_samples core (acts.Close n) may = refl
+noted_samples core (acts.Take _ _ _) may = absurd may
+noted_samples core (acts.Grow _ _ _) may = absurd may
+noted_samples core (acts.Start _ _ _ _) may = absurd may
+noted_samples core (acts.Return _ _ _ _ _) may = absurd may
+noted_samples core (acts.Release _ _) may = absurd may
+noted_samples core (acts.Control _) may = absurd may
 
 -- the state behind an act at this turn
 abbrev state_noted : Inside → ℕ → ℕ → ℕ → Act → State

@@ -233,10 +233,10 @@ module _ {plan : Plan} {seen : PoolView} {kept : RatesView} {busy : List (Option
       let both = both_true (h.user == stint.user) (is_busy_with h.condition thread stint.item stint.until) some.2 in
       (one.0, finds_in h stint.user (Busy thread stint.item stint.until) some.1 (same_number h.user stint.user both.0) (busy_condition h.condition thread stint.item stint.until both.1))
 
-  pub no_samples : (scenario : ℕ) (tally : TallyView) → scenario ≡ 0 → IsTrue (tally_fits plan.names (script_room plan scenario) tally) → length tally.samples ≡ 0
-  no_samples scenario tally first fits =
-      let room : script_room plan scenario ≡ 0 =
-      ap (script_room plan) first ∙ ap (λ (parts : List Part). option_map_or (λ (part : Part). part.sample_room) (slice_get parts 0) 0) shows.parts ∙ shows.no_samples in
+  pub few_samples : (scenario : ℕ) (tally : TallyView) → scenario ≡ 0 → IsTrue (tally_fits plan.names (script_room plan scenario) tally) → length tally.samples ≤ shows.part.sample_room
+  few_samples scenario tally first fits =
+      let room : script_room plan scenario ≡ shows.part.sample_room =
+      ap (script_room plan) first ∙ ap (λ (parts : List Part). option_map_or (λ (part : Part). part.sample_room) (slice_get parts 0) 0) shows.parts in
       let both = both_true (nat_le (length tally.samples) (script_room plan scenario)) (list_all (is_named plan.names) tally.samples) fits in
       let few = at_most_by_test (length tally.samples) (script_room plan scenario) both.0 in
       omega arith

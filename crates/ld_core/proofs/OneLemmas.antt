@@ -1,7 +1,8 @@
 -- The pool's machine with one scenario.
-use Rattle.std.proofs.Common.{◌≡◌, ◌&&◌, nat_lt, ℕ, Bool, true, false, not, if◌then◌else◌, List, [], ◌∷◌, ◌++◌, Option, None, Some, Contains, slice_get, length, arith, refl, ap, inl, inr, ◌∙◌}
+use Rattle.std.proofs.Common.{◌≡◌, ◌+◌, ◌*◌, ◌&&◌, ℕ, Bool, true, false, not, List, [], ◌∷◌, ◌++◌, Option, None, Some, Contains, slice_get, length, arith, refl, ap, inl, inr, ◌∙◌}
 use Rattle.std.specs.Prelude.{IsSomeAnd}
 use Rattle.std.specs.List.{list_any}
+use Rattle.std.proofs.Math.Nat.{suc-mul}
 use Rattle.std.proofs.lemmas.Grind.{common_steps}
 use Rattle.ld_base.specs.declared.reply.Reply.{Reply}
 use Rattle.ld_machine.specs.Plan.{Part, Plan}
@@ -10,7 +11,8 @@ use Rattle.ld_machine.specs.Scenario.{Scenario, may_stop}
 use Rattle.ld_machine.specs.Moves.{Move, StopScenario, ReleaseUser, TakeUser, AnswerArrival, StartIteration, DropIteration, CloseScenario, enabled, moves_of, scenarios, users_of, stops, releases, takes, arrivals, starts, drops, closes}
 use Rattle.ld_machine.specs.Order.{is_before, place_of, first_among, first_moves}
 use Rattle.ld_machine.specs.Acts.{added_entries, made_busy, scenario_of}
-use Rattle.ld_machine.specs.Room.{entries_refusal, or_else, room_refusal, samples_refusal, samples_with}
+use Rattle.ld_machine.specs.Room.{entries_refusal, or_else, room_refusal, samples_with}
+use Rattle.ld_core.specs.Single.{refusal_with}
 use Rattle.ld_machine.specs.Wishes.{later_moves, IsFirstOf}
 use Rattle.ld_machine.proofs.ListLemmas.{In, here, there, nothing_in, Contains-from_In, In-from_Contains, In-append, In-filter, filter-In}
 use Rattle.ld_machine.proofs.WaitLemmas.{In-left}
@@ -38,11 +40,13 @@ before_stop (StartIteration n user item until) = refl
 before_stop (DropIteration n item) = refl
 before_stop (CloseScenario n) = refl
 
-no_other : (b : Bool) (first : Option Reply) → or_else first (if b then None else None) ≡ first
-no_other true None = refl
-no_other true (Some reply) = refl
-no_other false None = refl
-no_other false (Some reply) = refl
+or_none : (first : Option Reply) → or_else first None ≡ first
+or_none None = refl
+or_none (Some reply) = refl
+
+-- where no iteration is started, room is room for entries
+pub entries_alone : (plan : Plan) (state : State) (added : ℕ) → refusal_with plan state added 0 ≡ entries_refusal plan state added 0
+entries_alone plan state added = or_none (entries_refusal plan state added 0)
 
 module _ (plan : Plan) (state : State) (part : Part) (share : Share) (one : IsOne plan state part share) where
   abbrev s : Scenario
@@ -126,14 +130,13 @@ module _ (plan : Plan) (state : State) (part : Part) (share : Share) (one : IsOn
       let all : enabled plan state t ≡ [] = later_one t no_stop ∙ ap (λ (ms : List Move). ms ++ []) none in
       ap first_among all
 
-  samples_fit : part.sample_room ≡ 0 → state.samples ≡ 0 → samples_with plan state 0 ≡ 0
-  samples_fit no_room no_samples = rw (one.parts, one.shares, no_samples, no_room) (omega arith)
+  -- with the samples of one iteration more
+  pub samples_one : samples_with plan state 0 ≡ state.samples + (length (busy_users share) + 1) * part.sample_room
+  samples_one = rw (scenarios_one, one.parts) (with_one state.samples (length (busy_users share)) part.sample_room)
+    where
+      with_one : (samples busy room : ℕ) → samples + (0 + busy * room) + room ≡ samples + (busy + 1) * room
+      with_one samples busy room = let next = suc-mul busy room in omega arith
 
-  -- where no script samples, room is room for entries
-  pub room_one : part.sample_room ≡ 0 → state.samples ≡ 0 → (move : Move) → scenario_of move ≡ 0 →
-      room_refusal plan state move ≡ entries_refusal plan state (added_entries move) (made_busy move)
-  room_one no_room no_samples move of_it =
-      let fits = samples_fit no_room no_samples in
-      let few : nat_lt plan.entry_limit 0 ≡ false = grind (arith, common_steps) in
-      let enough : samples_refusal plan state (scenario_of move) ≡ None = rw (of_it, fits, few) refl in
-      rw enough (no_other (nat_lt 0 (made_busy move)) (entries_refusal plan state (added_entries move) (made_busy move)))
+  -- why there is no room for an act, if there is none
+  pub room_one : (move : Move) → scenario_of move ≡ 0 → room_refusal plan state move ≡ refusal_with plan state (added_entries move) (made_busy move)
+  room_one move of_it = rw of_it refl

@@ -1,9 +1,9 @@
 -- The parts of a new core show the opening.
-use Rattle.std.proofs.Common.{◌≡◌, ◌<◌, ◌≤◌, ◌+◌, ◌==◌, nat_lt, ℕ, zero, suc, Bool, true, false, cond, List, [], ◌∷◌, Option, None, map, filter, replicate, slice_get, IsTrue, refl, sym, ap, ap₂, ◌∙◌, subst, arith}
+use Rattle.std.proofs.Common.{◌≡◌, ◌<◌, ◌≤◌, ◌+◌, ◌==◌, nat_lt, ℕ, zero, suc, Bool, true, false, not, cond, List, [], ◌∷◌, Option, None, map, filter, replicate, slice_get, IsTrue, refl, sym, ap, ap₂, ◌∙◌, subst, arith}
 use Rattle.std.specs.Prelude.{IsSomeAnd}
 use Rattle.std.specs.List.{list_any, range_with_len}
 use Rattle.std.proofs.lemmas.Grind.{common_steps}
-use Rattle.ld_arrival.specs.Schedule.{arrival_at}
+use Rattle.ld_arrival.specs.Schedule.{arrival_at, owned_pairs, schedule}
 use Rattle.ld_arrival.specs.Timetable.{Timetable, end_of, moment_of, planned, planned_below}
 use Rattle.ld_base.specs.History.{HistoryView}
 use Rattle.ld_machine.specs.Plan.{Arrival, ArrivalRate, Executor, Part, owned_items}
@@ -11,14 +11,19 @@ use Rattle.ld_machine.specs.Scenario.{executor_arrivals}
 use Rattle.ld_machine.specs.Settled.{is_distinct}
 use Rattle.ld_machine.specs.State.{Controls, State, opening, opening_controls, opening_share}
 use Rattle.ld_machine.specs.Effect.{state_after}
-use Rattle.ld_plan.specs.PlanView.{IsPlanOf, PlanView, part_of}
+use Rattle.ld_machine.proofs.HolderLemmas.{or_parts}
+use Rattle.ld_machine.proofs.ListLemmas.{both_true}
+use Rattle.ld_plan.specs.Executor.{timetable_of, pre_of, max_of}
+use Rattle.ld_plan.specs.IsPlanOf.{part_of, sample_room}
+use Rattle.ld_plan.specs.PlanView.{PlanView}
 use Rattle.ld_plan.specs.PlanView as plans
-use Rattle.ld_plan.specs.RateTest.{IsInRange, timetable_of}
+use Rattle.ld_plan.specs.Requirement.{most_owned_users, owned_users}
 use Rattle.ld_plan.specs.Row.{row_of}
-use Rattle.ld_plan.specs.declared.rate_test.RateTest.{RateTest}
 use Rattle.ld_plan.specs.declared.row.Row.{Row}
-use Rattle.ld_plan.proofs.PlanLemmas.{has_all}
-use Rattle.ld_plan.proofs.WholeLemmas.{share_of_whole}
+use Rattle.ld_plan.proofs.OneScenarioLemmas.{HasOne}
+use Rattle.ld_plan.proofs.PartLemmas.{pre_within}
+use Rattle.ld_plan.proofs.StripingLemmas.{share_rises}
+use Rattle.ld_stripe.specs.Striping.{owner_at}
 use Rattle.ld_pool.specs.Pool.{PoolView}
 use Rattle.ld_pool.specs.declared.user.User.{User}
 use Rattle.ld_pool.specs.declared.user.User.TheVariants as users
@@ -28,6 +33,10 @@ use Rattle.ld_rates.specs.declared.rates_part.RatesPart.{RatesPart}
 use Rattle.ld_core.specs.Core.{IsCore}
 use Rattle.ld_core.specs.Shows.{Shows, busy_of, user_of}
 use Rattle.ld_core.specs.declared.busy.Busy as playing
+
+not_true : (b : Bool) → not b ≡ true → b ≡ false
+not_true false h = refl
+not_true true h = absurd (cc)
 
 -- ---- items of one schedule are distinct
 
@@ -51,15 +60,41 @@ distinct_planned : (timetable : Timetable) → is_distinct (planned timetable) �
 unfolding planned
 distinct_planned timetable = distinct_kept (λ k. nat_lt (moment_of timetable k) (end_of timetable)) 0 (planned_below timetable)
 
-items_back : (timetable : Timetable) (numbers : List ℕ) →
-    map (λ (a : Arrival). a.item) (map plans.arrival_of (map (arrival_at timetable) numbers)) ≡ numbers
-items_back timetable [] = refl
-items_back timetable (k ∷ rest) = ap (λ (more : List ℕ). k ∷ more) (items_back timetable rest)
+-- what is kept of distinct items is distinct
+kept_apart : (keep : ℕ × ℕ → Bool) (pairs : List (ℕ × ℕ)) (k : ℕ) → list_any (λ x. x == k) (map (λ (p : ℕ × ℕ). p.0) pairs) ≡ false →
+    list_any (λ x. x == k) (map (λ (p : ℕ × ℕ). p.0) (filter keep pairs)) ≡ false
+kept_apart keep [] k none = refl
+kept_apart keep (pair ∷ rest) k none =
+    let parts = or_parts (pair.0 == k) (list_any (λ x. x == k) (map (λ (p : ℕ × ℕ). p.0) rest)) none in
+    let later = kept_apart keep rest k parts.1 in
+    let P : Bool → Type 0 = λ b. list_any (λ x. x == k) (map (λ (p : ℕ × ℕ). p.0) (cond b (pair ∷ filter keep rest) (filter keep rest))) ≡ false in
+    elim (keep pair) as P [ true ↦ rw (parts.0, later) refl | false ↦ later ]
 
-pub distinct_items : (test : RateTest) → IsTrue (is_distinct (owned_items (part_of test).executor))
-distinct_items test =
-    subst (λ (e : Executor). is_distinct (owned_items e) ≡ true) (sym (has_all test))
-    (subst (λ (items : List ℕ). is_distinct items ≡ true) (sym (items_back (timetable_of test) (planned (timetable_of test)))) (distinct_planned (timetable_of test)))
+kept_distinct : (keep : ℕ × ℕ → Bool) (pairs : List (ℕ × ℕ)) → is_distinct (map (λ (p : ℕ × ℕ). p.0) pairs) ≡ true → is_distinct (map (λ (p : ℕ × ℕ). p.0) (filter keep pairs)) ≡ true
+kept_distinct keep [] distinct = refl
+kept_distinct keep (pair ∷ rest) distinct =
+    let both = both_true (not (list_any (λ x. x == pair.0) (map (λ (p : ℕ × ℕ). p.0) rest))) (is_distinct (map (λ (p : ℕ × ℕ). p.0) rest)) distinct in
+    let later = kept_distinct keep rest both.1 in
+    let apart = kept_apart keep rest pair.0 (not_true (list_any (λ x. x == pair.0) (map (λ (p : ℕ × ℕ). p.0) rest)) both.0) in
+    let P : Bool → Type 0 = λ b. is_distinct (map (λ (p : ℕ × ℕ). p.0) (cond b (pair ∷ filter keep rest) (filter keep rest))) ≡ true in
+    elim (keep pair) as P [ true ↦ rw (apart, later) refl | false ↦ later ]
+
+firsts : (timetable : Timetable) (numbers : List ℕ) → map (λ (p : ℕ × ℕ). p.0) (map (arrival_at timetable) numbers) ≡ numbers
+firsts timetable [] = refl
+firsts timetable (k ∷ rest) = ap (λ (more : List ℕ). k ∷ more) (firsts timetable rest)
+
+items_of : (pairs : List (ℕ × ℕ)) → map (λ (a : Arrival). a.item) (map plans.arrival_of pairs) ≡ map (λ (p : ℕ × ℕ). p.0) pairs
+items_of [] = refl
+items_of (pair ∷ rest) = ap (λ (more : List ℕ). pair.0 ∷ more) (items_of rest)
+
+-- the items that a position owns of a schedule are distinct
+pub distinct_items : (timetable : Timetable) (owners : List ℕ) (j : ℕ) →
+    is_distinct (map (λ (a : Arrival). a.item) (map plans.arrival_of (owned_pairs owners j (schedule timetable)))) ≡ true
+distinct_items timetable owners j =
+    let keep : ℕ × ℕ → Bool = λ pair. owner_at owners pair.0 == j in
+    subst (λ (items : List ℕ). is_distinct items ≡ true) (sym (items_of (owned_pairs owners j (schedule timetable))))
+    (kept_distinct keep (schedule timetable)
+    (subst (λ (items : List ℕ). is_distinct items ≡ true) (sym (firsts timetable (planned timetable))) (distinct_planned timetable)))
 
 -- ---- nobody is held
 
@@ -74,48 +109,65 @@ none_busy a (suc n) = ap (λ (more : List (Option playing.Busy)). None ∷ more)
 -- ---- the part
 
 -- what holds of the one part of a plan
-pub of_part : (test : RateTest) (entries : ℕ) (plan : PlanView) (P : Part → Type 0) → IsPlanOf test entries plan → IsSomeAnd (slice_get plan.plan.parts 0) P → P (part_of test)
-of_part test entries plan P is holds = subst (λ (parts : List Part). IsSomeAnd (slice_get parts 0) P) is.parts holds
+pub of_part : (seen : PlanView) (one : HasOne seen) (P : Part → Type 0) → IsSomeAnd (slice_get seen.plan.parts 0) P → P one.view.part
+of_part seen one P holds = subst (λ (parts : List Part). IsSomeAnd (slice_get parts 0) P) one.parts holds
 
-pub users_within : (test : RateTest) → IsInRange test → (row_of (part_of test)).users ≤ (row_of (part_of test)).max
-users_within test ranges =
-    let pre = share_of_whole test.pre in
-    let most = share_of_whole test.max in
-    let within : test.pre ≤ test.max = ranges.above_pre in
-    omega arith
+-- what the part's executor is
+abbrev owned_executor : (seen : PlanView) → HasOne seen → Executor
+owned_executor seen one =
+    (part_of (sample_room seen.options.scripts.scripts one.scenario.script) one.striping one.part.items seen.position one.scenario).executor
 
-pub rates_opened : (test : RateTest) (row : Row) (part : RatesPart) (scenario : RatesView) (controls : Controls) → rates.ShowsOpening part scenario → row ≡ row_of (part_of test) →
-    part.begin ≡ row.begin → part.end ≡ row.end → part.grace ≡ (part_of test).grace → part.pre ≡ row.users → part.max ≡ row.max →
-    map plans.arrival_of part.ticker ≡ executor_arrivals (part_of test).executor →
-    rates.Shows scenario (record { part = part_of test; share = opening_share; controls = controls })
-rates_opened test row part scenario controls opens row_is begin end grace pre most ticker =
-    opens (record { part = part_of test; share = opening_share; controls = controls }) refl
+executor_is : (seen : PlanView) (one : HasOne seen) → one.view.part.executor ≡ owned_executor seen one
+executor_is seen one = ap (λ (p : Part). p.executor) one.part.part_is
+
+pub users_within : (seen : PlanView) (one : HasOne seen) → (row_of one.view.part).users ≤ (row_of one.view.part).max
+users_within seen one =
+    subst (λ (p : Part). (row_of p).users ≤ (row_of p).max) (sym one.part.part_is)
+    (share_rises one.striping.owners seen.position (pre_of one.scenario.executor) (max_of one.scenario.executor) (pre_within one.scenario.executor one.in_range.executor))
+
+items_distinct : (seen : PlanView) (one : HasOne seen) → IsTrue (is_distinct (owned_items one.view.part.executor))
+items_distinct seen one =
+    subst (λ (e : Executor). is_distinct (owned_items e) ≡ true) (sym (executor_is seen one))
+    (distinct_items (timetable_of one.scenario.executor) one.part.items.owners seen.position)
+
+-- its numbers are those of its row
+numbers_are : (part : Part) (pre most : ℕ) (arrivals : List Arrival) → part.executor ≡ ArrivalRate pre most arrivals →
+    part.executor ≡ ArrivalRate (row_of part).users (row_of part).max (executor_arrivals part.executor)
+numbers_are part pre most arrivals is =
+    subst (λ (e : Executor). e ≡ ArrivalRate (owned_users e) (most_owned_users e) (executor_arrivals e)) (sym is) refl
+
+pub rates_opened : (seen : PlanView) (one : HasOne seen) (row : Row) (part : RatesPart) (scenario : RatesView) (controls : Controls) → rates.ShowsOpening part scenario → row ≡ row_of one.view.part →
+    part.begin ≡ row.begin → part.end ≡ row.end → part.grace ≡ one.view.part.grace → part.pre ≡ row.users → part.max ≡ row.max →
+    map plans.arrival_of part.ticker ≡ executor_arrivals one.view.part.executor →
+    rates.Shows scenario (record { part = one.view.part; share = opening_share; controls = controls })
+rates_opened seen one row part scenario controls opens row_is begin end grace pre most ticker =
+    opens (record { part = one.view.part; share = opening_share; controls = controls }) refl
     (record {
       begin = sym (begin ∙ ap (λ (r : Row). r.begin) row_is);
       end = sym (end ∙ ap (λ (r : Row). r.end) row_is);
       grace = sym grace;
       executor =
-          ap₂ (λ (m n : ℕ). ArrivalRate m n (executor_arrivals (part_of test).executor)) (sym (pre ∙ ap (λ (r : Row). r.users) row_is)) (sym (most ∙ ap (λ (r : Row). r.max) row_is))
+          numbers_are one.view.part _ _ _ (executor_is seen one)
+          ∙ ap₂ (λ (m n : ℕ). ArrivalRate m n (executor_arrivals one.view.part.executor)) (sym (pre ∙ ap (λ (r : Row). r.users) row_is)) (sym (most ∙ ap (λ (r : Row). r.max) row_is))
           ∙ ap (ArrivalRate part.pre part.max) (sym ticker);
     })
-    (distinct_items test)
+    (items_distinct seen one)
 
 -- ---- the core
 
-pub opened : (test : RateTest) (entries : ℕ) (plan : PlanView) (pool : PoolView) (scenario : RatesView) (busy : List (Option playing.Busy)) (history : HistoryView) →
-    IsPlanOf test entries plan → plan.plan.planned ≤ plan.plan.limit → plan.plan.limit ≤ 1000 →
-    ((controls : Controls) → rates.Shows scenario (record { part = part_of test; share = opening_share; controls = controls })) →
+pub opened : (plan : PlanView) (one : HasOne plan) (pool : PoolView) (scenario : RatesView) (busy : List (Option playing.Busy)) (history : HistoryView) →
+    plan.plan.planned ≤ plan.plan.limit → plan.plan.limit ≤ 1000 → plan.plan.entry_limit ≤ 1000000 →
+    ((controls : Controls) → rates.Shows scenario (record { part = one.view.part; share = opening_share; controls = controls })) →
     pool ≡ record { users = replicate plan.plan.planned users.Free; limit = plan.plan.limit } → busy ≡ replicate plan.plan.limit None →
     history ≡ record { entries = []; room = plan.plan.entry_limit } →
-    IsCore (record { plan = plan; pool = pool; scenario = scenario; busy = busy; stopped = false; history = history })
-opened test entries plan pool scenario busy history is within few opens pool_is busy_is history_is =
+    IsCore (record { plan = plan; pool = pool; scenario = scenario; busy = busy; stopped = false; samples = 0; history = history })
+opened plan one pool scenario busy history within few most opens pool_is busy_is history_is =
     let state_is : state_after plan.plan history.entries ≡ opening plan.plan = ap (λ (h : HistoryView). state_after plan.plan h.entries) history_is in
     let shows : Shows plan.plan pool scenario busy false (opening plan.plan) = record {
-      part = part_of test;
-      parts = is.parts;
-      no_samples = refl;
+      part = one.view.part;
+      parts = one.parts;
       share = opening_share;
-      shares = ap (map (λ (part : Part). opening_share)) is.parts;
+      shares = ap (map (λ (part : Part). opening_share)) one.parts;
       rates = opens (opening plan.plan).controls;
       held_rise = tt;
       held_made = tt;
@@ -124,12 +176,14 @@ opened test entries plan pool scenario busy history is within few opens pool_is 
       users = ap (λ (p : PoolView). p.users) pool_is ∙ all_free 1 plan.plan.planned;
       busy_is = busy_is ∙ none_busy 1 plan.plan.limit;
       stop = refl;
-      controls = ap opening_controls is.parts;
-      samples = refl;
+      controls = ap opening_controls one.parts ∙ ap opening_controls (ap (λ (p : Part). p ∷ []) one.part.part_is);
       room = omega arith;
+      sample_room = omega arith;
     } in
     record {
       shows = subst (λ (s : State). Shows plan.plan pool scenario busy false s) (sym state_is) shows;
+      samples = sym (ap (λ (s : State). s.samples) state_is);
       room = ap (λ (h : HistoryView). h.room) history_is;
       few = few;
+      most = most;
     }

@@ -1,5 +1,5 @@
 -- The state behind a history and one entry more.
-use Rattle.std.proofs.Common.{◌≡◌, ◌+◌, ℕ, List, [], ◌∷◌, ◌++◌, Option, None, Some, length, slice_get, refl, arith}
+use Rattle.std.proofs.Common.{◌≡◌, ◌+◌, ℕ, List, [], ◌∷◌, ◌++◌, Option, None, Some, length, slice_get, refl, arith, ◌∙◌}
 use Rattle.std.specs.Option.{option_map_or}
 use Rattle.ld_base.specs.declared.act.Act.{Act}
 use Rattle.ld_base.specs.declared.act.Act.TheVariants.{Take, Grow, Start, Drop, Late, Return, Release, Stop, Close, Control}
@@ -49,3 +49,38 @@ entries_from plan state (entry ∷ rest) =
 -- the state counts the entries of its history
 pub entries_counted : (plan : Plan) (entries : List Entry) → (state_after plan entries).entries ≡ length entries
 entries_counted plan entries = let all = entries_from plan (opening plan) entries in omega arith
+
+-- ---- samples
+
+-- how many samples an act brings
+abbrev pub act_samples : Act → ℕ
+act_samples (Return n user item outcome tally) = length tally.samples
+act_samples _ = 0
+
+ended_samples : (plan : Plan) (n item : ℕ) (state : State) → (end_item_of plan n item state).samples ≡ state.samples
+ended_samples plan n item state =
+    let P : Option Part → Type 0 = λ o. (option_map_or (λ part. change_share state n (end_item part item)) o state).samples ≡ state.samples in
+    elim (slice_get plan.parts n) as P [ None ↦ refl | Some part ↦ refl ]
+
+none_more : (n : ℕ) → n ≡ n + 0
+none_more n = omega arith
+
+acted_samples : (plan : Plan) (state : State) (thread t : ℕ) (act : Act) → (after_act plan state thread t act).samples ≡ state.samples + act_samples act
+acted_samples plan state thread t (Take n user slot) = none_more state.samples
+acted_samples plan state thread t (Grow n user slot) = none_more state.samples
+acted_samples plan state thread t (Start n user item until) =
+    ended_samples plan n item (change_share state n (put_condition user (Busy thread item until))) ∙ none_more state.samples
+acted_samples plan state thread t (Drop n item) = ended_samples plan n item state ∙ none_more state.samples
+acted_samples plan state thread t (Late n item) = ended_samples plan n item state ∙ none_more state.samples
+acted_samples plan state thread t (Return n user item outcome tally) = refl
+acted_samples plan state thread t (Release n user) = none_more state.samples
+acted_samples plan state thread t (Stop n) = none_more state.samples
+acted_samples plan state thread t (Close n) = none_more state.samples
+acted_samples plan state thread t (Control commands.Stop) = none_more state.samples
+acted_samples plan state thread t (Control (commands.Pause _)) = none_more state.samples
+acted_samples plan state thread t (Control (commands.Vus _)) = none_more state.samples
+acted_samples plan state thread t (Control (commands.VusMax _)) = none_more state.samples
+
+-- the state behind an entry counts the samples that it brings
+pub samples_behind : (plan : Plan) (state : State) (entry : Entry) → (after_entry plan state entry).samples ≡ state.samples + act_samples entry.act
+samples_behind plan state entry = acted_samples plan state entry.thread entry.reading entry.act

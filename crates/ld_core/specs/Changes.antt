@@ -7,7 +7,7 @@ use Rattle.ld_base.specs.declared.ask.Ask.TheVariants as asks
 use Rattle.ld_base.specs.Stint.{StintView}
 use Rattle.ld_base.specs.Tally.{TallyView}
 use Rattle.ld_machine.specs.Moves.{scenarios}
-use Rattle.ld_machine.specs.Room.{entries_with, script_room}
+use Rattle.ld_machine.specs.Room.{entries_with, samples_with, script_room}
 use Rattle.ld_machine.specs.Samples.{tally_fits}
 use Rattle.ld_machine.specs.Scenario.{Scenario, least_open_item, may_hold_more}
 use Rattle.ld_machine.specs.State.{HeldUser, idle_users}
@@ -33,6 +33,10 @@ MayHoldMore core = OfScenario core (λ s. IsTrue (may_hold_more s))
 -- there is room for so many entries and busy users more
 abbrev pub HasRoom : CoreView → ℕ → ℕ → Type 0
 HasRoom core added busy = entries_with (state_of core) added busy ≤ (plan_of core).entry_limit
+
+-- there is room for the samples of one iteration more
+abbrev pub HasSampleRoom : CoreView → Type 0
+HasSampleRoom core = samples_with (plan_of core) (state_of core) 0 ≤ (plan_of core).entry_limit
 
 -- an act that changes no user, and that may be noted
 abbrev pub MayNote : CoreView → Act → Type 0

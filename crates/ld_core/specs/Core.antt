@@ -8,8 +8,11 @@ use Rattle.ld_core.specs.declared.machine.Core.TheInside.{Inside}
 abbrev pub core_view : Inside → CoreView
 core_view c = record { plan = c.plan; entries = c.history.entries }
 
--- the parts show the state behind the history, which has room for as many entries as the plan allows
+-- the parts show the state behind the history, and its samples are counted; it has room for as many entries
+-- as the plan allows
 pub record IsCore (c : Inside) : Type 0 where
   pub shows : Shows c.plan.plan c.pool c.scenario c.busy c.stopped (state_after c.plan.plan c.history.entries)
+  pub samples : c.samples ≡ (state_after c.plan.plan c.history.entries).samples
   pub room : c.history.room ≡ c.plan.plan.entry_limit
   pub few : c.plan.plan.limit ≤ 1000
+  pub most : c.plan.plan.entry_limit ≤ 1000000

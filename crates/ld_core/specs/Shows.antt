@@ -1,5 +1,5 @@
 -- Which state of the machine the parts of a core show.
-use Rattle.std.specs.Prelude.{◌≡◌, ◌<◌, ◌≤◌, ◌+◌, ◌==◌, ℕ, Bool, false, List, [], ◌∷◌, Option, None, Some, find, length, map}
+use Rattle.std.specs.Prelude.{◌≡◌, ◌<◌, ◌≤◌, ◌+◌, ◌*◌, ◌==◌, ℕ, Bool, false, List, [], ◌∷◌, Option, None, Some, find, length, map}
 use Rattle.std.specs.List.{AllByRecursion, range_with_len}
 use Rattle.std.specs.Option.{option_map_or}
 use Rattle.ld_machine.specs.Plan.{Part, Plan}
@@ -44,11 +44,10 @@ pub record IsMade (made : ℕ) (h : HeldUser) : Type 0 where
 
 -- The parts of a core show a state of one scenario: the pool says what each made user is, the table what
 -- each user plays, and the scenario's state shows the scenario. A history that returns what is out now has
--- room.
+-- room, with as many samples as its script may give.
 pub record Shows (plan : Plan) (pool : PoolView) (kept : RatesView) (busy : List (Option playing.Busy)) (stopped : Bool) (state : State) : Type 0 where
   pub part : Part
   pub parts : plan.parts ≡ part ∷ []
-  pub no_samples : part.sample_room ≡ 0
   pub share : Share
   pub shares : state.shares ≡ share ∷ []
   pub rates : rates.Shows kept (record { part = part; share = share; controls = state.controls })
@@ -60,5 +59,5 @@ pub record Shows (plan : Plan) (pool : PoolView) (kept : RatesView) (busy : List
   pub busy_is : busy ≡ map (busy_of share) (range_with_len 1 plan.limit)
   pub stop : stopped ≡ state.stop_commanded
   pub controls : state.controls ≡ record { paused = false; vus = 0; vus_max = 0 }
-  pub samples : state.samples ≡ 0
   pub room : state.entries + length (busy_users share) ≤ plan.entry_limit
+  pub sample_room : state.samples + length (busy_users share) * part.sample_room ≤ plan.entry_limit

@@ -11,7 +11,7 @@ impl Core {
     ghost use Rattle.ld_base.specs.Stint.{stint_of};
     ghost use Rattle.ld_base.specs.declared.act.Act.{Act};
     ghost use Rattle.ld_base.specs.declared.command.Command.{Command};
-    ghost use Rattle.ld_core.specs.Changes.{HasRoom, IsIdleUser, IsNextItem, IsReturn, MayHoldMore, MayNote};
+    ghost use Rattle.ld_core.specs.Changes.{HasRoom, HasSampleRoom, IsIdleUser, IsNextItem, IsReturn, MayHoldMore, MayNote};
     ghost use Rattle.ld_core.specs.CoreView.{plan_of, state_of, Adds};
     ghost use Rattle.ld_machine.specs.State.{free_users};
 
@@ -89,6 +89,7 @@ impl Core {
         requires idle { IsIdleUser self.old user }
         requires next { IsNextItem self.old item }
         requires room { HasRoom self.old 1 1 }
+        requires samples { HasSampleRoom self.old }
         ensures stint { result ≡ stint_of 0 user item until }
         ensures added { Adds self.old self.new thread reading (Act.Start 0 user item until) }
     {
@@ -123,6 +124,7 @@ impl Core {
         ensures added { Adds self.old self.new thread reading (Act.Return 0 stint.user stint.item outcome tally) }
     {
         let user = stint.user();
+        self.samples += tally.len() as u64;
         let act = Act::Return {
             scenario: 0,
             user,

@@ -11,13 +11,14 @@ use std::marker::Model;
 
 /// The pool's machine for one instance: who plays what, and the history of it. It is seen as its plan
 /// and its history. All memory of the run is taken when it is made.
-#[derive(Debug, Drop)]
+#[derive(Drop)]
 pub struct Core {
     pub(crate) plan: Plan,
     pub(crate) pool: Pool,
     pub(crate) scenario: RatesState,
     pub(crate) busy: BusyUsers,
     pub(crate) stopped: bool,
+    pub(crate) samples: u64,
     pub(crate) history: History,
 }
 
@@ -66,6 +67,7 @@ impl Core {
             scenario,
             busy,
             stopped: false,
+            samples: 0,
             history,
         })
     }
@@ -129,6 +131,7 @@ impl Core {
             scenario: _,
             busy: _,
             stopped: _,
+            samples: _,
             history,
         } = self;
         (plan, history)

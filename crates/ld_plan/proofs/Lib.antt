@@ -1,7 +1,10 @@
 pub mod WholeLemmas
 pub mod RequirementLemmas
 pub mod OwnedLemmas
-pub mod TimesLemmas
+pub mod StripingLemmas
+pub mod PartLemmas
+pub mod TimedLemmas
 pub mod PlanLemmas
 pub mod RefusalLemmas
-pub mod TimedLemmas
+pub mod AllPlansLemmas
+pub mod OneScenarioLemmas

@@ -1,35 +1,47 @@
--- An instance that plays the whole test has all its users and all its arrivals.
-use Rattle.std.proofs.Common.{◌≡◌, ◌∙◌, ◌∷◌, [], ℕ, map, arith, ap, ap₂, subst}
-use Rattle.ld_arrival.specs.Schedule.{schedule}
-use Rattle.ld_machine.specs.Plan.{ArrivalRate}
-use Rattle.ld_plan.specs.PlanView.{PlanView, IsPlanOf, arrival_of, owned_arrivals, part_of, whole_of}
-use Rattle.ld_plan.specs.RateTest.{IsInRange, timetable_of}
+-- A segment of a test has one plan, and of a test with one scenario it has one part.
+use Rattle.std.proofs.Common.{◌≡◌, ◌<◌, ◌≤◌, ◌∙◌, ◌∷◌, [], ℕ, List, length, map, arith, ap, ap₂, refl, sym, subst}
+use Rattle.std.specs.List.{AllByRecursion, AllZip}
+use Rattle.ld_num.specs.declared.fraction.Frac.{Frac}
+use Rattle.ld_segment.specs.declared.segment.Segment.{Segment}
+use Rattle.ld_machine.specs.Plan.{Part, Plan}
+use Rattle.ld_options.specs.Ranges.{IsScenarioInRange}
+use Rattle.ld_options.specs.declared.options.Options.{Options}
+use Rattle.ld_options.specs.declared.scenario.Scenario.{Scenario}
+use Rattle.ld_plan.specs.IsPlanOf.{AreParts, IsPartOf, IsPlanOf, IsSound, sample_room}
+use Rattle.ld_plan.specs.PartView.{PartView, parts_of, wholes_of}
+use Rattle.ld_plan.specs.PlanView.{PlanView, Whole}
 use Rattle.ld_plan.specs.Requirement.{IsRequirement}
-use Rattle.ld_plan.specs.declared.rate_test.RateTest.{RateTest}
-use Rattle.ld_plan.proofs.RequirementLemmas.{of_one_part, one_greatest}
-use Rattle.ld_plan.proofs.WholeLemmas.{pairs_of_whole, share_of_whole}
+use Rattle.ld_plan.proofs.PartLemmas.{one_parts, one_place}
+use Rattle.ld_plan.proofs.RequirementLemmas.{one_greatest}
 
-pub has_all : (test : RateTest) →
-    (part_of test).executor ≡ ArrivalRate test.pre test.max (map arrival_of (schedule (timetable_of test)))
-has_all test =
-    ap₂ (λ (pre most : ℕ). ArrivalRate pre most (owned_arrivals (whole_of test) 0)) (share_of_whole test.pre) (share_of_whole test.max)
-    ∙ ap (λ pairs. ArrivalRate test.pre test.max (map arrival_of pairs)) (pairs_of_whole (schedule (timetable_of test)))
+-- plans of one machine's plan are one
+same_plan : (a b : Plan) → a.parts ≡ b.parts → a.planned ≡ b.planned → a.limit ≡ b.limit → a.entry_limit ≡ b.entry_limit → a.names ≡ b.names → a ≡ b
+same_plan a b parts planned limit entries names = λ i. record {
+  parts = parts i;
+  planned = planned i;
+  limit = limit i;
+  entry_limit = entries i;
+  names = names i;
+}
 
--- what the part needs
-needs : (test : RateTest) → IsInRange test → IsRequirement (part_of test ∷ []) test.pre test.max
-needs test ranges = of_one_part (part_of test) test.pre test.max _ (has_all test) (omega arith) ranges.above_pre
+same_view : (a b : PlanView) → a.plan ≡ b.plan → a.position ≡ b.position → a.wholes ≡ b.wholes → a.options ≡ b.options → a.sequence ≡ b.sequence → a ≡ b
+same_view a b plan position wholes options sequence = λ i. record {
+  plan = plan i;
+  position = position i;
+  wholes = wholes i;
+  options = options i;
+  sequence = sequence i;
+}
 
--- what a plan of the test needs
-plan_needs : (test : RateTest) (entries : ℕ) (seen : PlanView) → IsPlanOf test entries seen →
-    IsRequirement (part_of test ∷ []) seen.plan.planned seen.plan.limit
-plan_needs test entries seen is = subst (λ parts. IsRequirement parts seen.plan.planned seen.plan.limit) is.parts is.users
-
-pub planned_is : (test : RateTest) (entries : ℕ) (seen : PlanView) → IsInRange test → IsPlanOf test entries seen →
-    seen.plan.planned ≡ test.pre
-planned_is test entries seen ranges is =
-    one_greatest _ _ _ (plan_needs test entries seen is).planned_is (needs test ranges).planned_is
-
-pub limit_is : (test : RateTest) (entries : ℕ) (seen : PlanView) → IsInRange test → IsPlanOf test entries seen →
-    seen.plan.limit ≡ test.max
-limit_is test entries seen ranges is =
-    one_greatest _ _ _ (plan_needs test entries seen is).limit_is (needs test ranges).limit_is
+pub one_plan : (options : Options) (segment : Segment) (sequence : List Frac) (entries : ℕ) → IsSound options sequence → (a b : PlanView) →
+    IsPlanOf options segment sequence entries a → IsPlanOf options segment sequence entries b → a ≡ b
+one_plan options segment sequence entries sound a b of_a of_b =
+    let position = one_place options segment sequence a.position b.position of_a.views of_b.views sound of_a.are_parts of_b.are_parts in
+    let views = one_parts options segment sequence a.position b.position of_a.views of_b.views sound of_a.are_parts of_b.are_parts in
+    let parts : a.plan.parts ≡ b.plan.parts = of_a.parts ∙ ap parts_of views ∙ sym of_b.parts in
+    let needs = subst (λ (ps : List Part). IsRequirement ps a.plan.planned a.plan.limit) parts of_a.users in
+    let planned = one_greatest _ _ _ needs.planned_is of_b.users.planned_is in
+    let limit = one_greatest _ _ _ needs.limit_is of_b.users.limit_is in
+    same_view a b
+    (same_plan a.plan b.plan parts planned limit (of_a.entry_limit ∙ sym of_b.entry_limit) (of_a.names ∙ sym of_b.names))
+    position (of_a.wholes ∙ ap wholes_of views ∙ sym of_b.wholes) (of_a.options_are ∙ sym of_b.options_are) (of_a.sequence_is ∙ sym of_b.sequence_is)

@@ -1,38 +1,51 @@
--- The arrivals of a test that isn't refused are due before its end.
-use Rattle.std.proofs.Common.{◌<◌, ◌≤◌, ℕ, ◌∷◌, [], arith, subst}
+-- The part of a scenario whose numbers are in their ranges is well timed.
+use Rattle.std.proofs.Common.{◌<◌, ◌≤◌, ℕ, arith}
 use Rattle.std.specs.Prelude.{Contains}
-use Rattle.std.proofs.lemmas.List.Elements.{All-contains, All-cons, All-nil}
-use Rattle.ld_machine.specs.Moment.{last_moment}
+use Rattle.ld_stripe.specs.Striping.{Striping}
+use Rattle.ld_arrival.specs.Timetable.{end_of}
+use Rattle.ld_arrival.proofs.CountLemmas.{ends_within}
 use Rattle.ld_machine.specs.Plan.{Arrival, due_moment}
 use Rattle.ld_machine.specs.Scenario.{executor_arrivals}
-use Rattle.ld_machine.specs.WellTimed.{IsWellTimed, WellTimed}
-use Rattle.ld_plan.specs.PlanView.{PlanView, IsPlanOf, part_of, whole_of}
-use Rattle.ld_plan.specs.RateTest.{IsInRange, timetable_of}
-use Rattle.ld_plan.specs.declared.rate_test.RateTest.{RateTest}
-use Rattle.ld_arrival.proofs.CountLemmas.{ends_within}
+use Rattle.ld_machine.specs.WellTimed.{IsWellTimed}
+use Rattle.ld_options.specs.Ranges.{IsInRange, IsScenarioInRange}
+use Rattle.ld_options.specs.declared.executor.Executor.{Executor}
+use Rattle.ld_options.specs.declared.executor.Executor.TheVariants.{ConstantArrivals}
+use Rattle.ld_options.specs.declared.scenario.Scenario.{Scenario}
+use Rattle.ld_plan.specs.Executor.{timetable_of}
+use Rattle.ld_plan.specs.IsPlanOf.{part_of, whole_of}
 use Rattle.ld_plan.proofs.OwnedLemmas.{owned_planned}
-use Rattle.ld_plan.proofs.TimesLemmas.{within_limits}
+use Rattle.ld_plan.proofs.PartLemmas.{within_limits}
 
-ends_in_time : (test : RateTest) → IsInRange test → test.duration ≤ last_moment
-ends_in_time test ranges = let ends = ends_within (timetable_of test) (within_limits test ranges.timed) in omega arith
+-- a scenario lasts some time
+pub lasts_some : (e : Executor) → IsInRange e → 0 < end_of (timetable_of e)
+lasts_some (ConstantArrivals rate unit duration pre max) ranges = let durations = ranges.durations in let least = durations.at_least in omega arith
 
-due_in_time : (test : RateTest) → IsInRange test → (a : Arrival) → Contains (executor_arrivals (part_of test).executor) a →
-    due_moment (part_of test) a < test.duration
-due_in_time test ranges a has =
-    let planned = owned_planned (whole_of test) 0 (within_limits test ranges.timed) a has in
-    let moment = planned.1 in
-    let before = planned.0 in
+pub begins_before_end : (room : ℕ) (striping items : Striping) (j : ℕ) (s : Scenario) → IsScenarioInRange s →
+    (part_of room striping items j s).begin < (part_of room striping items j s).end
+begins_before_end room striping items j s range =
+    let begin = range.begin in
+    let lasts = lasts_some s.executor range.executor in
+    let ends = ends_within (timetable_of s.executor) (within_limits s.executor range.executor) in
     omega arith
 
-part_timed : (test : RateTest) → IsInRange test → IsWellTimed (part_of test)
-part_timed test ranges = record {
-  begins = omega arith;
-  ends = ends_in_time test ranges;
-  due = due_in_time test ranges;
-  off = λ interval has. absurd (let none : has.0 < 0 = has.1 in omega arith);
-}
+due_in_time : (room : ℕ) (striping items : Striping) (j : ℕ) (s : Scenario) → IsScenarioInRange s →
+    (a : Arrival) → Contains (executor_arrivals (part_of room striping items j s).executor) a →
+    due_moment (part_of room striping items j s) a < (part_of room striping items j s).end
+due_in_time room striping items j s range a has =
+    let limits = within_limits s.executor range.executor in
+    let planned = owned_planned (whole_of items s) j limits a has in
+    let moment = planned.1 in
+    let before = planned.0 in
+    let ends = ends_within (timetable_of s.executor) limits in
+    let begin = range.begin in
+    omega arith
 
-pub plan_timed : (test : RateTest) (entries : ℕ) (seen : PlanView) → IsInRange test → IsPlanOf test entries seen → WellTimed seen.plan
-plan_timed test entries seen ranges is part has =
-    let only : Contains (part_of test ∷ []) part = subst (λ parts. Contains parts part) is.parts has in
-    All-contains IsWellTimed (part_of test ∷ []) part (All-cons IsWellTimed (part_of test) [] (part_timed test ranges) (All-nil IsWellTimed)) only
+pub part_timed : (room : ℕ) (striping items : Striping) (j : ℕ) (s : Scenario) → IsScenarioInRange s → IsWellTimed (part_of room striping items j s)
+part_timed room striping items j s range =
+    let before = begins_before_end room striping items j s range in
+    record {
+      begins = omega arith;
+      ends = omega arith;
+      due = due_in_time room striping items j s range;
+      off = λ interval has. absurd (let none : has.0 < 0 = has.1 in omega arith);
+    }

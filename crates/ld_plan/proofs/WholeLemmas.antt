@@ -1,16 +1,16 @@
--- The one position of a whole test owns every index, and no other striping has its weight.
-use Rattle.std.proofs.Common.{◌≡◌, ◌≤◌, ◌%◌, ◌∙◌, ℕ, List, [], ◌∷◌, cond, get_or, arith, refl, ap, ap₂, subst}
+-- The one position of a test that isn't cut owns every index.
+use Rattle.std.proofs.Common.{◌≡◌, ◌<◌, ◌≤◌, ◌∙◌, ℕ, List, [], ◌∷◌, arith, refl, ap, subst}
 use Rattle.std.specs.Int.{◌∣◌}
-use Rattle.std.proofs.Math.Nat.{mod-lt}
-use Rattle.std.proofs.lemmas.Bool.{eq-eqb}
+use Rattle.std.proofs.Math.Nat.{eq-one_of_dvd-one, one-dvd}
 use Rattle.std.proofs.lemmas.List.Elements.{All-cons, All-head, All-nil}
 use Rattle.std.proofs.lemmas.Nat.Gcd.{dvd_refl}
-use Rattle.ld_arrival.specs.Schedule.{owned_pairs}
-use Rattle.ld_stripe.specs.Striping.{Striping, IsStriping, IsStripingOf, IsLowestTerms, owner_at, share_at}
+use Rattle.ld_num.specs.declared.fraction.Frac.{Frac}
+use Rattle.ld_segment.specs.Segments.{one_point, zero_point}
+use Rattle.ld_segment.specs.Weights.{HasPeriod, HasWeights}
+use Rattle.ld_stripe.specs.Striping.{IsStriping, IsStripingOf, IsLowestTerms, share_at}
 use Rattle.ld_stripe.proofs.DueLemmas.{owners_in_range}
-use Rattle.ld_stripe.proofs.LowestTermsLemmas.{one_form}
 use Rattle.ld_stripe.proofs.StripingLaws.{shares_sum, striping_exists}
-use Rattle.ld_plan.specs.PlanView.{whole_striping}
+use Rattle.ld_plan.specs.IsPlanOf.{IsSequenceStriping, whole_striping}
 
 -- the weight 1 has one list of owners
 one_list : (owners : List ℕ) → IsStriping (1 ∷ []) owners → owners ≡ 0 ∷ []
@@ -20,7 +20,7 @@ one_list (o ∷ []) s =
     ap (λ k. k ∷ []) (omega arith)
 one_list (o ∷ p ∷ rest) s = let period = s.period in absurd (omega arith)
 
-pub one_striped : IsStriping (1 ∷ []) (0 ∷ [])
+one_striped : IsStriping (1 ∷ []) (0 ∷ [])
 one_striped =
     let found = striping_exists (1 ∷ []) in
     subst (IsStriping (1 ∷ [])) (one_list found.0 found.1) found.1
@@ -39,28 +39,26 @@ one_weight v = record {
 pub striping_of_one : (v : ℕ) → IsStripingOf (v ∷ []) whole_striping
 striping_of_one v = record { lowest_terms = one_weight v; striping = one_striped }
 
--- and that is its only striping
-pub only_striping : (v : ℕ) → 1 ≤ v → (s : Striping) → IsStripingOf (v ∷ []) s → s ≡ whole_striping
-only_striping v some s striped =
-    let same : s.weights ≡ 1 ∷ [] = one_form (v ∷ []) s.weights (1 ∷ []) (omega arith) striped.lowest_terms (one_weight v) in
-    let list = one_list s.owners (subst (λ w. IsStriping w s.owners) same striped.striping) in
-    ap₂ (λ (weights owners : List ℕ). record { weights = weights; owners = owners }) same list
+-- the sequence of the points 0 and 1 has the period 1, and its one position the weight 1
+one_period : HasPeriod (zero_point ∷ one_point ∷ []) 1
+one_period = record {
+  spans = one_point ∷ [];
+  are_lengths = (refl, tt);
+  is_least = record {
+    of_each = All-cons (λ n. n ∣ 1) 1 [] (dvd_refl 1) (All-nil (λ n. n ∣ 1));
+    least = λ other all. All-head (λ n. n ∣ other) 1 [] all;
+  };
+}
+
+one_weighted : HasWeights (zero_point ∷ one_point ∷ []) 1 (1 ∷ [])
+unfolding one_period
+one_weighted = record { has_period = one_period; each = (refl, tt) }
+
+pub sequence_of_one : IsSequenceStriping (zero_point ∷ one_point ∷ []) whole_striping
+sequence_of_one = record { period = 1; weights = 1 ∷ []; weighted = one_weighted; striping = striping_of_one 1 }
 
 -- the whole has all of any number of indices
 pub share_of_whole : (v : ℕ) → share_at (0 ∷ []) 0 v ≡ v
 share_of_whole v =
     let all = shares_sum (1 ∷ []) (0 ∷ []) one_striped (omega arith) v in
     omega arith
-
-pub owner_of_whole : (x : ℕ) → owner_at (0 ∷ []) x ≡ 0
-owner_of_whole x =
-    let within = mod-lt x {m = 1} (omega arith) in
-    let first : x % 1 ≡ 0 = omega arith in
-    ap (λ k. get_or (0 ∷ []) k 0) first
-
--- and all pairs
-pub pairs_of_whole : (pairs : List (ℕ × ℕ)) → owned_pairs (0 ∷ []) 0 pairs ≡ pairs
-pairs_of_whole [] = refl
-pairs_of_whole (pair ∷ pairs) =
-    ap (λ b. cond b (pair ∷ owned_pairs (0 ∷ []) 0 pairs) (owned_pairs (0 ∷ []) 0 pairs)) (eq-eqb _ _ (owner_of_whole pair.0))
-    ∙ ap (λ ps. pair ∷ ps) (pairs_of_whole pairs)

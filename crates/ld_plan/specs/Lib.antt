@@ -1,9 +1,10 @@
-pub mod Field
-pub mod RateTest
+pub mod Executor
 pub mod Requirement
 pub mod Row
 pub mod PlanView
 pub mod PartView
+pub mod IsPlanOf
+pub mod Whole
 pub mod Part
 pub mod Plan
 pub mod PlanFault

@@ -1,10 +1,11 @@
 -- How a plan is seen, and what holds of its fields.
-use Rattle.std.specs.Prelude.{◌≤◌, ℕ, []}
+use Rattle.std.specs.Prelude.{◌≤◌, ℕ}
+use Rattle.ld_segment.specs.declared.segment.Segment.{Segment}
+use Rattle.ld_plan.specs.IsPlanOf.{IsPlanOf, IsSound}
 use Rattle.ld_plan.specs.PartView.{parts_of, wholes_of}
 use Rattle.ld_plan.specs.PlanFault.{IsAccepted}
-use Rattle.ld_plan.specs.PlanView.{IsPlanOf, PlanView}
+use Rattle.ld_plan.specs.PlanView.{PlanView}
 use Rattle.ld_plan.specs.declared.plan.Plan.TheInside.{Inside}
-use Rattle.ld_plan.specs.declared.rate_test.RateTest.{RateTest}
 
 abbrev pub plan_view : Inside → PlanView
 plan_view p =
@@ -15,20 +16,23 @@ plan_view p =
             planned = p.users.planned;
             limit = p.users.limit;
             entry_limit = p.entries;
-            names = [];
+            names = p.options.scripts.specs;
           };
       position = p.position;
       wholes = wholes_of p.parts.items;
+      options = p.options;
+      sequence = p.sequence;
     }
 
 -- the plan is that of a test which isn't refused, with a number of entries within the limits
 pub record IsMade (seen : PlanView) : Type 0 where
-  pub test : RateTest
+  pub segment : Segment
   pub entries : ℕ
   pub least : 10 ≤ entries
   pub most : entries ≤ 1000000
-  pub is_plan : IsPlanOf test entries seen
-  pub accepted : IsAccepted test entries
+  pub sound : IsSound seen.options seen.sequence
+  pub is_plan : IsPlanOf seen.options segment seen.sequence entries seen
+  pub accepted : IsAccepted seen.options segment seen.sequence entries
 
 abbrev pub IsPlan : Inside → Type 0
 IsPlan p = IsMade (plan_view p)

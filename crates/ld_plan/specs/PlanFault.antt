@@ -1,45 +1,104 @@
--- When a test is refused, in the order in which it is looked at.
-use Rattle.std.specs.Prelude.{◌≡◌, ◌<◌, ◌≤◌, ◌+◌, ◌*◌, ◌-◌, ◌^◌, ℕ, min, length}
+-- When a plan is refused, in the order in which it is looked at.
+use Rattle.std.specs.Prelude.{◌≡◌, ◌<◌, ◌≤◌, ◌+◌, ◌*◌, ◌-◌, ◌^◌, ℕ, List, IsSomeAnd, Some, length, min, slice_get, sum_by, take}
+use Rattle.std.specs.List.{AllByRecursion}
+use Rattle.ld_num.specs.declared.fraction.Frac.{Frac}
+use Rattle.ld_segment.specs.Refusal.{ends}
+use Rattle.ld_segment.specs.Segments.{segments_of}
+use Rattle.ld_segment.specs.Weights.{HasPeriod, IsPeriodRefusal, greatest_period}
+use Rattle.ld_segment.specs.declared.fault.SegmentFault.TheVariants as segments
+use Rattle.ld_segment.specs.declared.segment.Segment.{Segment}
 use Rattle.ld_arrival.specs.Limits.{most_arrivals}
-use Rattle.ld_arrival.specs.Timetable.{planned_count}
-use Rattle.ld_machine.specs.Plan.{owned_items}
-use Rattle.ld_plan.specs.PlanView.{part_of}
-use Rattle.ld_plan.specs.RateTest.{HasBad, IsInRange, IsTimed, timetable_of}
+use Rattle.ld_arrival.specs.Timetable.{Timetable, planned_count}
+use Rattle.ld_machine.specs.Plan.{Part, owned_items}
+use Rattle.ld_options.specs.declared.options.Options.{Options}
+use Rattle.ld_options.specs.declared.scenario.Scenario.{Scenario}
+use Rattle.ld_plan.specs.Executor.{timetable_of}
+use Rattle.ld_plan.specs.IsPlanOf.{AreParts}
+use Rattle.ld_plan.specs.PartView.{PartView, parts_of}
 use Rattle.ld_plan.specs.declared.fault.PlanFault.{PlanFault}
-use Rattle.ld_plan.specs.declared.fault.PlanFault.TheVariants.{Range, MaxBelowPre, TooManyArrivals, JournalTooSmall, Memory}
-use Rattle.ld_plan.specs.declared.field.Field.TheVariants.{Rate, TimeUnit, Duration, PreAllocatedVus, MaxVus}
-use Rattle.ld_plan.specs.declared.rate_test.RateTest.{RateTest}
+use Rattle.ld_plan.specs.declared.fault.PlanFault.TheVariants.{NotInSequence, PeriodTooLarge, TooManyArrivals, JournalTooSmall, Memory}
 
--- how many entries a journal may need: two for each owned item, and one for the scenario
-abbrev pub needed_entries : RateTest → ℕ
-needed_entries test = 2 * length (owned_items (part_of test).executor) + 1
+-- the segment stands at this position of the sequence
+abbrev pub StandsAt : Segment → List Frac → ℕ → Type 0
+StandsAt segment sequence j = slice_get (segments_of sequence) j ≡ Some (ends segment)
 
--- The test is refused with this fault, where a journal has so many entries. Want of memory is no
--- refusal of its own.
-abbrev pub IsRefusal : RateTest → ℕ → PlanFault → Type 0
-IsRefusal test entries (Range Rate) = HasBad Rate test
-IsRefusal test entries (Range TimeUnit) = (¬ HasBad Rate test) × HasBad TimeUnit test
-IsRefusal test entries (Range Duration) = (¬ HasBad Rate test) × (¬ HasBad TimeUnit test) × HasBad Duration test
-IsRefusal test entries (Range PreAllocatedVus) = IsTimed test × HasBad PreAllocatedVus test
-IsRefusal test entries (MaxBelowPre MaxVus) = IsTimed test × (¬ HasBad PreAllocatedVus test) × (test.max < test.pre)
-IsRefusal test entries (Range MaxVus) =
-    IsTimed test × (¬ HasBad PreAllocatedVus test) × (test.pre ≤ test.max) × HasBad MaxVus test
-IsRefusal test entries (MaxBelowPre _) = ⊥
-IsRefusal test entries (TooManyArrivals scenario count) =
-    IsInRange test
-    × (most_arrivals < planned_count (timetable_of test))
-    × (scenario ≡ 0)
-    × (count ≡ min (planned_count (timetable_of test)) (2 ^ 64 - 1))
-IsRefusal test entries (JournalTooSmall needed limit) =
-    IsInRange test
-    × (planned_count (timetable_of test) ≤ most_arrivals)
-    × (entries < needed_entries test)
-    × (needed ≡ needed_entries test)
+-- the pattern of the sequence repeats soon enough
+pub record HasShortPeriod (sequence : List Frac) : Type 0 where
+  pub period : ℕ
+  pub has : HasPeriod sequence period
+  pub short : period ≤ greatest_period
+
+-- the fault says that it repeats too late
+abbrev pub IsLongPeriod : List Frac → PlanFault → Type 0
+IsLongPeriod sequence (PeriodTooLarge told) = IsPeriodRefusal sequence (segments.PeriodTooLarge told)
+IsLongPeriod sequence NotInSequence = ⊥
+IsLongPeriod sequence (TooManyArrivals scenario told) = ⊥
+IsLongPeriod sequence (JournalTooSmall needed limit) = ⊥
+IsLongPeriod sequence Memory = ⊥
+
+-- there are few enough arrivals of each scenario
+abbrev pub AreFew : List Scenario → Type 0
+AreFew scenarios = AllByRecursion (λ s. planned_count (timetable_of s.executor) ≤ most_arrivals) scenarios
+
+-- a timetable plans more arrivals, and the number that is told is theirs, or 2^64 - 1 where that is less
+pub record HasTooMany (timetable : Timetable) (told : ℕ) : Type 0 where
+  pub many : most_arrivals < planned_count timetable
+  pub number : told ≡ min (planned_count timetable) (2 ^ 64 - 1)
+
+-- the fault says that the scenario of this number, whose timetable this is, has too many
+abbrev pub IsManyOf : Timetable → ℕ → PlanFault → Type 0
+IsManyOf timetable n (TooManyArrivals scenario told) = (scenario ≡ n) × HasTooMany timetable told
+IsManyOf timetable n NotInSequence = ⊥
+IsManyOf timetable n (PeriodTooLarge told) = ⊥
+IsManyOf timetable n (JournalTooSmall needed limit) = ⊥
+IsManyOf timetable n Memory = ⊥
+
+-- it is the first of the scenarios that has too many
+pub record HasFirstMany (scenarios : List Scenario) (n told : ℕ) : Type 0 where
+  pub before : AreFew (take n scenarios)
+  pub here : IsSomeAnd (slice_get scenarios n) (λ s. HasTooMany (timetable_of s.executor) told)
+
+-- the fault says which
+abbrev pub IsFirstMany : List Scenario → PlanFault → Type 0
+IsFirstMany scenarios (TooManyArrivals n told) = HasFirstMany scenarios n told
+IsFirstMany scenarios NotInSequence = ⊥
+IsFirstMany scenarios (PeriodTooLarge told) = ⊥
+IsFirstMany scenarios (JournalTooSmall needed limit) = ⊥
+IsFirstMany scenarios Memory = ⊥
+
+-- how many entries a journal may need: two for each owned item, and one for each scenario
+abbrev pub needed_entries : List Part → ℕ
+needed_entries parts = 2 * sum_by (λ (part : Part). length (owned_items part.executor)) parts + length parts
+
+-- the parts that the segment owns need so many entries
+pub record IsNeeded (options : Options) (segment : Segment) (sequence : List Frac) (needed : ℕ) : Type 0 where
+  pub position : ℕ
+  pub views : List PartView
+  pub are_parts : AreParts options segment sequence position views
+  pub number : needed ≡ needed_entries (parts_of views)
+
+-- The plan is refused with this fault, where a journal has so many entries. Want of memory is no refusal
+-- of its own.
+abbrev pub IsRefusal : Options → Segment → List Frac → ℕ → PlanFault → Type 0
+IsRefusal options segment sequence entries NotInSequence = (j : ℕ) → StandsAt segment sequence j → ⊥
+IsRefusal options segment sequence entries (PeriodTooLarge told) =
+    ((j : ℕ) × StandsAt segment sequence j) × IsPeriodRefusal sequence (segments.PeriodTooLarge told)
+IsRefusal options segment sequence entries (TooManyArrivals scenario told) =
+    ((j : ℕ) × StandsAt segment sequence j)
+    × HasShortPeriod sequence
+    × HasFirstMany options.scenarios scenario told
+IsRefusal options segment sequence entries (JournalTooSmall needed limit) =
+    HasShortPeriod sequence
+    × AreFew options.scenarios
+    × IsNeeded options segment sequence needed
+    × (entries < needed)
     × (limit ≡ entries)
-IsRefusal test entries Memory = ⊥
+IsRefusal options segment sequence entries Memory = ⊥
 
--- nothing of the test is refused, where a journal has so many entries
-pub record IsAccepted (test : RateTest) (entries : ℕ) : Type 0 where
-  pub in_range : IsInRange test
-  pub few : planned_count (timetable_of test) ≤ most_arrivals
-  pub room : needed_entries test ≤ entries
+-- nothing is refused, where a journal has so many entries
+pub record IsAccepted (options : Options) (segment : Segment) (sequence : List Frac) (entries : ℕ) : Type 0 where
+  pub short : HasShortPeriod sequence
+  pub few : AreFew options.scenarios
+  pub needed : ℕ
+  pub is_needed : IsNeeded options segment sequence needed
+  pub room : needed ≤ entries

@@ -1,26 +1,34 @@
 // The laws of plans.
-ghost use Rattle.std.specs.Prelude.{◌≡◌, ◌≤◌, ◌⊎◌, ◌∷◌, [], ℕ, List, map};
-ghost use Rattle.ld_arrival.specs.Schedule.{schedule};
-ghost use Rattle.ld_machine.specs.Plan.{Part, ArrivalRate};
+ghost use Rattle.std.specs.Prelude.{◌≡◌, ◌≤◌, ◌⊎◌, ◌∷◌, [], ℕ, List, Some, IsPermutation, map, slice_get, sum_by};
+ghost use Rattle.std.specs.List.{flat_map};
+ghost use Rattle.ld_num.specs.declared.fraction.Frac.{Frac};
+ghost use Rattle.ld_segment.specs.Segments.{one_point, zero_point};
+ghost use Rattle.ld_segment.specs.declared.segment.Segment.{Segment};
 ghost use Rattle.ld_stripe.specs.Striping.{IsStripingOf, shares_at};
-ghost use Rattle.ld_plan.specs.PlanView.{IsPlanOf, PlanView, arrival_of, part_of, whole_striping};
+ghost use Rattle.ld_arrival.specs.Schedule.{schedule};
+ghost use Rattle.ld_machine.specs.Plan.{Part};
+ghost use Rattle.ld_options.specs.declared.options.Options.{Options};
+ghost use Rattle.ld_options.specs.declared.scenario.Scenario.{Scenario};
+ghost use Rattle.ld_plan.specs.Executor.{max_of, pre_of, timetable_of};
+ghost use Rattle.ld_plan.specs.IsPlanOf.{IsPlanOf, IsSequenceStriping, IsSound, whole_striping};
 ghost use Rattle.ld_plan.specs.PlanFault.{IsAccepted, IsRefusal};
-ghost use Rattle.ld_plan.specs.RateTest.{IsInRange, timetable_of};
+ghost use Rattle.ld_plan.specs.PlanView.{PlanView, arrival_of};
 ghost use Rattle.ld_plan.specs.Requirement.{IsRequirement};
+ghost use Rattle.ld_plan.specs.Whole.{AreAllPlans, arrivals_at, most_users_at, users_at};
 ghost use Rattle.ld_plan.specs.declared.fault.PlanFault.{PlanFault};
-ghost use Rattle.ld_plan.specs.declared.rate_test.RateTest.{RateTest};
 
-/// A test is either accepted or refused.
+/// A segment of a test either has a plan or is refused.
 pub fn accepted_or_refused()
-    ensures either { (test : RateTest) (entries : ℕ) →
-        IsAccepted test entries ⊎ ((fault : PlanFault) × IsRefusal test entries fault) }
-    ensures not_both { (test : RateTest) (entries : ℕ) (fault : PlanFault) →
-        IsAccepted test entries → IsRefusal test entries fault → ⊥ }
+    ensures either { (options : Options) (segment : Segment) (sequence : List Frac) (entries : ℕ) → IsSound options sequence →
+        IsAccepted options segment sequence entries ⊎ ((fault : PlanFault) × IsRefusal options segment sequence entries fault) }
+    ensures not_both { (options : Options) (segment : Segment) (sequence : List Frac) (entries : ℕ) → IsSound options sequence →
+        (fault : PlanFault) → IsAccepted options segment sequence entries → IsRefusal options segment sequence entries fault → ⊥ }
 {}
 
-/// A test has at most one refusal.
+/// A segment of a test has at most one refusal.
 pub fn one_refusal()
-    ensures { (test : RateTest) (entries : ℕ) (a b : PlanFault) → IsRefusal test entries a → IsRefusal test entries b → a ≡ b }
+    ensures { (options : Options) (segment : Segment) (sequence : List Frac) (entries : ℕ) → IsSound options sequence → (a b : PlanFault) →
+        IsRefusal options segment sequence entries a → IsRefusal options segment sequence entries b → a ≡ b }
 {}
 
 /// Parts need one number of planned users and have one limit, and no more users are planned than the
@@ -31,24 +39,34 @@ pub fn one_requirement()
     ensures within { (parts : List Part) (planned limit : ℕ) → IsRequirement parts planned limit → planned ≤ limit }
 {}
 
-/// A test and a number of entries mean one plan.
+/// A segment of a test and a number of entries mean one plan.
 pub fn one_plan()
-    ensures { (test : RateTest) (entries : ℕ) (a b : PlanView) → IsPlanOf test entries a → IsPlanOf test entries b → a ≡ b }
+    ensures { (options : Options) (segment : Segment) (sequence : List Frac) (entries : ℕ) → IsSound options sequence → (a b : PlanView) →
+        IsPlanOf options segment sequence entries a → IsPlanOf options segment sequence entries b → a ≡ b }
 {}
 
-/// The one position of a whole test has the weight 1, and its striping stays the same where it is
-/// rescaled.
+/// The one position of a test that isn't cut has the weight 1 and owns every index, and its striping
+/// stays the same where it is rescaled.
 pub fn one_position()
-    ensures striping { IsStripingOf (1 ∷ []) whole_striping }
+    ensures striping { IsSequenceStriping (zero_point ∷ one_point ∷ []) whole_striping }
     ensures rescaled { (v : ℕ) → 1 ≤ v → IsStripingOf (shares_at whole_striping v) whole_striping }
 {}
 
-/// An instance that plays the whole test has all its users and all its arrivals.
-pub fn plays_whole()
-    ensures executor { (test : RateTest) →
-        (part_of test).executor ≡ ArrivalRate test.pre test.max (map arrival_of (schedule (timetable_of test))) }
-    ensures planned { (test : RateTest) (entries : ℕ) (seen : PlanView) → IsInRange test → IsPlanOf test entries seen →
-        seen.plan.planned ≡ test.pre }
-    ensures limit { (test : RateTest) (entries : ℕ) (seen : PlanView) → IsInRange test → IsPlanOf test entries seen →
-        seen.plan.limit ≡ test.max }
+/// Each arrival of a scenario is owned by exactly one position: what all positions of a sequence own of
+/// it is the whole's schedule, each arrival once.
+pub fn items_owned_once()
+    ensures { (options : Options) (sequence : List Frac) (entries : ℕ) (plans : List PlanView) → IsSound options sequence →
+        AreAllPlans options sequence entries plans → (n : ℕ) (scenario : Scenario) → slice_get options.scenarios n ≡ Some scenario →
+        IsPermutation (map arrival_of (schedule (timetable_of scenario.executor))) (flat_map (arrivals_at n) plans) }
+{}
+
+/// Each user of a scenario is owned by exactly one position: the users that all positions of a sequence
+/// have of it, and the most that they may have, sum to those of the whole.
+pub fn users_owned_once()
+    ensures pre { (options : Options) (sequence : List Frac) (entries : ℕ) (plans : List PlanView) → IsSound options sequence →
+        AreAllPlans options sequence entries plans → (n : ℕ) (scenario : Scenario) → slice_get options.scenarios n ≡ Some scenario →
+        sum_by (users_at n) plans ≡ pre_of scenario.executor }
+    ensures max { (options : Options) (sequence : List Frac) (entries : ℕ) (plans : List PlanView) → IsSound options sequence →
+        AreAllPlans options sequence entries plans → (n : ℕ) (scenario : Scenario) → slice_get options.scenarios n ≡ Some scenario →
+        sum_by (most_users_at n) plans ≡ max_of scenario.executor }
 {}

@@ -1,25 +1,20 @@
 //! Plans: what an instance owns of a test, and how many users that needs.
 #![tactic(auto)]
 
+mod executor;
 mod fault;
-mod field;
 mod laws;
 mod part;
 mod plan;
-mod rate_test;
 mod row;
 mod striping;
 mod users;
 
 pub use fault::PlanFault;
-pub use field::Field;
 pub use laws::{
-    accepted_or_refused, one_plan, one_position, one_refusal, one_requirement, plays_whole,
+    accepted_or_refused, items_owned_once, one_plan, one_position, one_refusal, one_requirement,
+    users_owned_once,
 };
 pub use plan::Plan;
-pub use rate_test::RateTest;
 pub use row::Row;
 pub use users::Users;
-
-#[cfg(test)]
-mod tests;

@@ -1,21 +1,16 @@
 ghost use Rattle.std.specs.Prelude.{◌≡◌, ◌<◌, ◌≤◌};
 
+use crate::executor::{arrivals_of, numbers_of};
 use crate::fault::PlanFault;
-use crate::rate_test::RateTest;
 use crate::row::Row;
-use crate::striping::{of_items, share_of, whole};
+use crate::striping::{of_items, share_of};
 use crate::users::Users;
 use ld_arrival::{Arrivals, Ticker};
 use ld_base::Text;
+use ld_options::{Executor, Scenario};
 use ld_stripe::Stripe;
 use std::alloc::Global;
 use std::marker::Model;
-
-/// The name of the one scenario.
-const NAME: &[u8] = b"main";
-
-/// The grace of a scenario, where none is given: 30 seconds, in nanoseconds.
-const DEFAULT_GRACE: u64 = 30_000_000_000;
 
 // What an instance owns of one scenario. It is seen as its part of the machine's plan, beside the
 // scenario of the whole test.
@@ -25,12 +20,14 @@ pub struct Part {
     begin: u64,
     end: u64,
     grace: u64,
+    room: u32,
     users: u32,
     max: u32,
     position: usize,
-    test: RateTest,
+    executor: Executor,
     arrivals: Arrivals,
-    stripe: Stripe,
+    positions: Stripe,
+    items: Stripe,
 }
 
 impl Model for Part {
@@ -46,42 +43,58 @@ impl Model for Part {
 }
 
 impl Part {
-    ghost use Rattle.std.specs.Prelude.{◌≡◌, ◌≢◌, ◌<◌, ◌≤◌, ◌∷◌, [], ◌↔◌, ℕ, IsTrue, IfOk, IfErr, Contains, length, map};
+    ghost use Rattle.std.specs.Prelude.{◌≡◌, ◌≢◌, ◌<◌, ◌≤◌, ◌∷◌, [], ◌↔◌, ℕ, IsTrue, IfOk, IfErr, Contains, length, map, sum};
+    ghost use Rattle.ld_stripe.specs.Striping.{IsStriping};
     ghost use Rattle.ld_arrival.specs.Limits.{most_arrivals};
     ghost use Rattle.ld_arrival.specs.Timetable.{moment_of, planned_count};
     ghost use Rattle.ld_machine.specs.Moment.{moment_after};
     ghost use Rattle.ld_machine.specs.Plan.{Arrival, due_moment, owned_items};
     ghost use Rattle.ld_machine.specs.Scenario.{executor_arrivals};
+    ghost use Rattle.ld_options.specs.Ranges.{IsScenarioInRange};
+    ghost use Rattle.ld_plan.specs.Executor.{timetable_of};
+    ghost use Rattle.ld_plan.specs.IsPlanOf.{IsPartOf};
     ghost use Rattle.ld_plan.specs.PartView.{PartView};
-    ghost use Rattle.ld_plan.specs.PlanFault.{IsRefusal};
-    ghost use Rattle.ld_plan.specs.PlanView.{arrival_of, part_of, whole_of};
-    ghost use Rattle.ld_plan.specs.RateTest.{IsInRange, timetable_of};
+    ghost use Rattle.ld_plan.specs.PlanFault.{IsManyOf};
+    ghost use Rattle.ld_plan.specs.PlanView.{arrival_of};
     ghost use Rattle.ld_plan.specs.Requirement.{IsRequirement};
     ghost use Rattle.ld_plan.specs.Row.{row_of};
     ghost use Rattle.ld_plan.specs.declared.fault.PlanFault.TheVariants.{Memory};
 
-    // The whole of a test's one scenario.
-    pub fn of_rate_test(alloc: Global, test: RateTest) -> Result<Part, PlanFault>
-        requires { IsInRange test }
-        ensures part { IfOk result (λ p. p ≡ record { part = part_of test; whole = whole_of test }) }
-        ensures few { IfOk result (λ p. planned_count (timetable_of test) ≤ most_arrivals) }
-        ensures refused { IfErr result (λ f. f ≢ Memory → (entries : ℕ) → IsRefusal test entries f) }
+    // What a position owns of the scenario of this number, whose iterations give at most `room`
+    // samples. The positions have this striping.
+    pub fn of(
+        alloc: Global,
+        number: u16,
+        scenario: &Scenario,
+        room: u32,
+        positions: Stripe,
+        position: usize,
+    ) -> Result<Part, PlanFault>
+        requires in_range { IsScenarioInRange scenario.now }
+        requires striping { IsStriping positions.weights positions.owners }
+        requires some { 0 < sum positions.weights }
+        requires inside { position < length positions.weights }
+        ensures part { IfOk result (IsPartOf room positions position scenario.now) }
+        ensures few { IfOk result (λ _. planned_count (timetable_of scenario.now.executor) ≤ most_arrivals) }
+        ensures refused { IfErr result (λ f. f ≢ Memory → IsManyOf (timetable_of scenario.now.executor) number f) }
     {
-        let arrivals = test.arrivals(alloc)?;
-        let slots = whole(alloc)?;
-        let stripe = of_items(alloc, test.max)?;
-        let name = Text::of(Vec::from_slice(alloc, NAME)?);
+        let arrivals = arrivals_of(alloc, scenario.executor, number)?;
+        let numbers = numbers_of(scenario.executor);
+        let items = of_items(alloc, &positions, numbers.max)?;
+        let name = Text::of(Vec::from_slice(alloc, scenario.name.as_slice())?);
         Ok(Part {
             name,
-            begin: 0,
-            end: test.duration,
-            grace: DEFAULT_GRACE,
-            users: share_of(&slots, 0, test.pre),
-            max: share_of(&slots, 0, test.max),
-            position: 0,
-            test,
+            begin: scenario.begin,
+            end: scenario.begin.saturating_add(numbers.duration),
+            grace: scenario.grace,
+            room,
+            users: share_of(&positions, position, numbers.pre),
+            max: share_of(&positions, position, numbers.max),
+            position,
+            executor: scenario.executor,
             arrivals,
-            stripe,
+            positions,
+            items,
         })
     }
 
@@ -105,7 +118,7 @@ impl Part {
         ensures owned { result ≡ length (owned_items self.now.part.executor) }
         ensures few { result ≤ most_arrivals }
     {
-        self.stripe.share(self.position, self.arrivals.count())
+        self.items.share(self.position, self.arrivals.count())
     }
 
     // Whether the instance owns this item.
@@ -113,7 +126,7 @@ impl Part {
         requires { item < self.now.part.whole_items }
         ensures { IsTrue result ↔ Contains (owned_items self.now.part.executor) item }
     {
-        self.stripe.owner(item) == self.position
+        self.items.owner(item) == self.position
     }
 
     // The moment at which an arrival is due, in nanoseconds from the run's start.
@@ -131,6 +144,13 @@ impl Part {
         ensures { result ≡ self.now.part.grace }
     {
         self.grace
+    }
+
+    // How many samples an iteration may give.
+    pub fn sample_room(&self) -> u32
+        ensures { result ≡ self.now.part.sample_room }
+    {
+        self.room
     }
 
     // The numbers of the scenario.
@@ -162,11 +182,11 @@ impl Part {
         ensures arrivals { IfOk result (λ ticker. map arrival_of ticker ≡ executor_arrivals self.now.part.executor) }
         ensures memory { IfErr result (λ f. f ≡ Memory) }
     {
-        let Ok(arrivals) = self.test.arrivals(alloc) else {
+        let Ok(arrivals) = arrivals_of(alloc, self.executor, 0) else {
             return Err(PlanFault::Memory);
         };
-        let stripe = of_items(alloc, self.test.max)?;
-        let Ok(ticker) = Ticker::new(alloc, arrivals, stripe, self.position) else {
+        let items = of_items(alloc, &self.positions, numbers_of(self.executor).max)?;
+        let Ok(ticker) = Ticker::new(alloc, arrivals, items, self.position) else {
             return Err(PlanFault::Memory);
         };
         Ok(ticker)

@@ -1,23 +1,35 @@
-ghost use Rattle.std.specs.Prelude.{◌≡◌, ◌<◌, ◌≤◌, ◌∷◌, [], IfOk};
+ghost use Rattle.std.specs.Prelude.{◌≡◌, ◌≢◌, ◌<◌, ◌≤◌, ◌∷◌, [], length, sum, IfErr, IfOk};
+ghost use Rattle.ld_stripe.specs.Striping.{IsStriping};
+ghost use Rattle.ld_options.specs.Ranges.{AreInRange};
+ghost use Rattle.ld_options.specs.declared.options.Options.{Options};
+ghost use Rattle.ld_plan.specs.IsPlanOf.{sample_room, AreOwned};
+ghost use Rattle.ld_plan.specs.PlanFault.{AreFew, IsFirstMany};
+ghost use Rattle.ld_plan.specs.declared.fault.PlanFault.TheVariants.{Memory};
 
 use crate::fault::PlanFault;
 use crate::part::Part;
-use crate::rate_test::RateTest;
 use crate::row::Row;
+use crate::striping::of_sequence;
 use crate::users::Users;
 use ld_arrival::Ticker;
 use ld_base::Text;
+use ld_options::Options;
+use ld_script::Scripts;
+use ld_segment::{Segment, Sequence};
+use ld_stripe::Stripe;
 use std::alloc::{AllocError, Global};
 use std::marker::Model;
 
-/// The plan of one instance: what it owns of a test, and how many users that needs. It is seen as
-/// the plan of the pool's machine, beside the position that it plays and the scenarios of the whole
-/// test.
+/// The plan of one instance: what a segment of a sequence owns of a test, and how many users that
+/// needs. It is seen as the plan of the pool's machine, beside the position that it plays, the
+/// scenarios of the whole test, and the options and the sequence that it was made of.
 ///
 /// Scenarios are numbered from 0, in byte order of their names. Items are numbered from 0, over the
 /// whole test.
-#[derive(Debug, Drop)]
+#[derive(Drop)]
 pub struct Plan {
+    options: Options,
+    sequence: Sequence,
     position: usize,
     parts: Vec<Part>,
     users: Users,
@@ -38,6 +50,8 @@ impl Model for Plan {
 
 impl Plan {
     ghost use Rattle.std.specs.Prelude.{◌≡◌, ◌≢◌, ◌<◌, ◌≤◌, ◌↔◌, ℕ, Some, IsTrue, IfOk, IfErr, IsSomeAnd, Contains, length, map, slice_get};
+    ghost use Rattle.ld_segment.specs.Points.{IsFilled};
+    ghost use Rattle.ld_segment.specs.Segments.{segments_of};
     ghost use Rattle.ld_arrival.specs.Limits.{most_arrivals};
     ghost use Rattle.ld_arrival.specs.Timetable.{moment_of};
     ghost use Rattle.ld_machine.specs.Moment.{moment_after};
@@ -47,30 +61,40 @@ impl Plan {
     ghost use Rattle.ld_plan.specs.PartView.{PartView};
     ghost use Rattle.ld_plan.specs.Plan.{IsMade};
     ghost use Rattle.ld_plan.specs.PlanFault.{IsAccepted, IsRefusal};
-    ghost use Rattle.ld_plan.specs.PlanView.{IsPlanOf, Whole, arrival_of};
-    ghost use Rattle.ld_plan.specs.RateTest.{most_users};
+    ghost use Rattle.ld_options.specs.Ranges.{most_users};
+    ghost use Rattle.ld_plan.specs.IsPlanOf.{IsPlanOf};
+    ghost use Rattle.ld_plan.specs.PlanView.{Whole, arrival_of};
     ghost use Rattle.ld_plan.specs.Requirement.{IsRequirement};
     ghost use Rattle.ld_plan.specs.Row.{row_of};
     ghost use Rattle.ld_plan.specs.declared.fault.PlanFault.{PlanFault};
     ghost use Rattle.ld_plan.specs.declared.fault.PlanFault.TheVariants.{Memory};
 
-    /// The plan of an instance that plays the whole of a test, with at most `entries` entries in its
-    /// journal, from 10 to 1,000,000.
+    /// The plan of the instance that plays a segment of a filled sequence, with at most `entries`
+    /// entries in its journal, from 10 to 1,000,000.
     ///
-    /// Refused are, in this order: `rate`, `unit`, `duration` and `pre` out of their ranges; a `max`
-    /// below `pre`; `max` out of its range; more than 400,000 planned arrivals; and `entries` below
-    /// 2 for each owned item plus 1 for the scenario.
-    pub fn of_rate_test(alloc: Global, test: &RateTest, entries: u32) -> Result<Plan, PlanFault>
+    /// Refused are, in this order: a segment that is none of the sequence; a period of the sequence of
+    /// more than 100,000; the first scenario with more than 400,000 planned arrivals, over the whole
+    /// test; and `entries` below 2 for each owned item plus 1 for each scenario.
+    pub fn of(
+        alloc: Global,
+        options: Options,
+        segment: Segment,
+        sequence: Sequence,
+        entries: u32,
+    ) -> Result<Plan, PlanFault>
+        requires filled { IsFilled sequence }
         requires least { 10 ≤ entries }
         requires most { entries ≤ 1000000 }
-        ensures plan { IfOk result (IsPlanOf test.now entries) }
-        ensures accepted { IfOk result (λ _. IsAccepted test.now entries) }
-        ensures unrefused { IfOk result (λ _. (f : PlanFault) → IsRefusal test.now entries f → ⊥) }
-        ensures refused { IfErr result (λ f. f ≢ Memory → IsRefusal test.now entries f) }
+        ensures plan { IfOk result (IsPlanOf options segment sequence entries) }
+        ensures accepted { IfOk result (λ _. IsAccepted options segment sequence entries) }
+        ensures unrefused { IfOk result (λ _. (f : PlanFault) → IsRefusal options segment sequence entries f → ⊥) }
+        ensures refused { IfErr result (λ f. f ≢ Memory → IsRefusal options segment sequence entries f) }
     {
-        let test = *test;
-        test.check()?;
-        let part = Part::of_rate_test(alloc, test)?;
+        let Some(position) = sequence.position(&segment) else {
+            return Err(PlanFault::NotInSequence);
+        };
+        let positions = of_sequence(alloc, &sequence)?;
+        let part = owned_part(alloc, &options, positions, position)?;
         let needed = 2 * part.owned() + 1;
         if needed > entries as u64 {
             return Err(PlanFault::JournalTooSmall {
@@ -80,16 +104,35 @@ impl Plan {
         }
         let users = part.requirement();
         Ok(Plan {
-            position: 0,
+            options,
+            sequence,
+            position,
             parts: one_part(alloc, part)?,
             users,
             entries,
         })
     }
 
+    /// The options of the test.
+    pub fn options(&self) -> &Options
+        ensures options { result.now ≡ self.now.options }
+        ensures made { IsMade self.now }
+    {
+        &self.options
+    }
+
+    /// The sequence that cuts the test.
+    pub fn sequence(&self) -> &Sequence
+        ensures sequence { result.now ≡ self.now.sequence }
+        ensures filled { IsFilled self.now.sequence }
+    {
+        &self.sequence
+    }
+
     /// The position of the sequence that the instance plays, from 0.
     pub fn position(&self) -> usize
-        ensures { result ≡ self.now.position }
+        ensures position { result ≡ self.now.position }
+        ensures inside { result < length (segments_of self.now.sequence) }
     {
         self.position
     }
@@ -115,11 +158,11 @@ impl Plan {
         self.entries
     }
 
-    /// How many scenarios there are.
+    /// How many scenarios there are: one at least.
     pub fn scenarios(&self) -> u16
         ensures count { result ≡ length self.now.plan.parts }
         ensures whole { result ≡ length self.now.wholes }
-        ensures made { IsMade self.now }
+        ensures some { 0 < result }
     {
         self.parts.len() as u16
     }
@@ -195,6 +238,14 @@ impl Plan {
         self.part(scenario).grace()
     }
 
+    /// How many samples an iteration of a scenario may give.
+    pub fn sample_room(&self, scenario: u16) -> u32
+        requires { scenario < length self.now.plan.parts }
+        ensures { IsSomeAnd (slice_get self.now.plan.parts scenario) (λ part. result ≡ part.sample_room) }
+    {
+        self.part(scenario).sample_room()
+    }
+
     /// A ticker of the arrivals that the instance owns of a scenario, of which none was given.
     ///
     /// Fails where there is no memory for them.
@@ -215,5 +266,36 @@ fn one_part(alloc: Global, part: Part) -> Result<Vec<Part>, AllocError>
     match Vec::from_array(alloc, [part]) {
         Ok(parts) => Ok(parts),
         Err(failed) => Err(AllocError::from(failed)),
+    }
+}
+
+// What a position owns of the one scenario of a test.
+fn owned_part(
+    alloc: Global,
+    options: &Options,
+    positions: Stripe,
+    position: usize,
+) -> Result<Part, PlanFault>
+    requires striping { IsStriping positions.weights positions.owners }
+    requires some { 0 < sum positions.weights }
+    requires inside { position < length positions.weights }
+    ensures owned { IfOk result (λ part. AreOwned options.now positions position (part ∷ [])) }
+    ensures few { IfOk result (λ _. AreFew options.now.scenarios) }
+    ensures in_range { IfOk result (λ _. AreInRange options.now.scenarios) }
+    ensures refused { IfErr result (λ f. f ≢ Memory → IsFirstMany options.now.scenarios f) }
+{
+    let scenario = &options.scenarios.as_slice()[0];
+    let room = sample_room(&options.scripts, scenario.script);
+    Part::of(alloc, 0, scenario, room, positions, position)
+}
+
+// How many samples an iteration of a script may give.
+fn sample_room(scripts: &Scripts, at: u16) -> u32
+    ensures { result ≡ sample_room scripts.now.scripts at }
+{
+    if at < scripts.count() {
+        scripts.script(at).sample_room()
+    } else {
+        0
     }
 }

@@ -1,42 +1,71 @@
-// The stripings of an instance that plays the whole test.
-ghost use Rattle.std.specs.Prelude.{◌≡◌, ◌<◌, ◌≤◌, length, IfOk, IfErr};
-ghost use Rattle.ld_stripe.specs.Striping.{share_at};
-ghost use Rattle.ld_plan.specs.PlanView.{whole_striping};
+// The stripings of the positions of a sequence.
+ghost use Rattle.std.specs.Prelude.{◌≡◌, ◌≢◌, ◌<◌, ◌≤◌, All, length, sum, IfOk, IfErr};
+ghost use Rattle.ld_segment.specs.Points.{IsFilled};
+ghost use Rattle.ld_segment.specs.Segments.{most_segments, segments_of};
+ghost use Rattle.ld_segment.specs.Weights.{greatest_period, HasWeights};
+ghost use Rattle.ld_stripe.specs.Striping.{IsStripingOf, share_at, shares_at};
+ghost use Rattle.ld_plan.specs.IsPlanOf.{IsSequenceStriping};
+ghost use Rattle.ld_plan.specs.PlanFault.{HasShortPeriod, IsLongPeriod};
 ghost use Rattle.ld_plan.specs.declared.fault.PlanFault.TheVariants.{Memory};
 
 use crate::fault::PlanFault;
-use ld_stripe::Stripe;
+use ld_segment::{SegmentFault, Sequence};
+use ld_stripe::{Stripe, StripeFault};
 use std::alloc::Global;
 
-// The striping of the whole test: one position, which owns every index.
-pub fn whole(alloc: Global) -> Result<Stripe, PlanFault>
-    ensures striping { IfOk result (λ s. s ≡ whole_striping) }
-    ensures memory { IfErr result (λ f. f ≡ Memory) }
+// The weights of the positions of a filled sequence.
+fn weights_of(alloc: Global, sequence: &Sequence) -> Result<Vec<u64>, PlanFault>
+    requires filled { IsFilled sequence.now }
+    ensures weights { IfOk result (λ weights. HasWeights sequence.now (sum weights.items) weights.items) }
+    ensures small { IfOk result (λ weights. sum weights.items ≤ greatest_period) }
+    ensures positions { IfOk result (λ weights. length weights.items ≡ length (segments_of sequence.now)) }
+    ensures few { IfOk result (λ weights. length weights.items ≤ most_segments) }
+    ensures weighted { IfOk result (λ weights. All (λ w. 0 < w) weights.items) }
+    ensures refused { IfErr result (λ f. f ≢ Memory → IsLongPeriod sequence.now f) }
 {
-    let Ok(stripe) = Stripe::of_weights(alloc, &[1]) else {
-        return Err(PlanFault::Memory);
-    };
-    Ok(stripe)
+    match sequence.weights(alloc) {
+        Ok(weights) => Ok(weights),
+        Err(SegmentFault::PeriodTooLarge(period)) => Err(PlanFault::PeriodTooLarge(period)),
+        Err(_) => Err(PlanFault::Memory),
+    }
 }
 
-// The striping of a scenario's items, which is that of the shares of its users.
-pub fn of_items(alloc: Global, max: u32) -> Result<Stripe, PlanFault>
+// The striping of the positions of a filled sequence. Its weights are never refused by the striping.
+pub fn of_sequence(alloc: Global, sequence: &Sequence) -> Result<Stripe, PlanFault>
+    requires filled { IsFilled sequence.now }
+    ensures striping { IfOk result (IsSequenceStriping sequence.now) }
+    ensures positions { IfOk result (λ s. length s.weights ≡ length (segments_of sequence.now)) }
+    ensures short { IfOk result (λ _. HasShortPeriod sequence.now) }
+    ensures refused { IfErr result (λ f. f ≢ Memory → IsLongPeriod sequence.now f) }
+{
+    let weights = weights_of(alloc, sequence)?;
+    match Stripe::of_weights(alloc, &weights) {
+        Ok(stripe) => Ok(stripe),
+        Err(fault) => match fault {
+            StripeFault::Memory => Err(PlanFault::Memory),
+            _ => unreachable!(),
+        },
+    }
+}
+
+// The striping of a scenario's items, which is that of the shares of its greatest number of users.
+pub fn of_items(alloc: Global, positions: &Stripe, max: u32) -> Result<Stripe, PlanFault>
     requires some { 1 ≤ max }
     requires few { max ≤ 1000 }
-    ensures striping { IfOk result (λ s. s ≡ whole_striping) }
+    ensures striping { IfOk result (IsStripingOf (shares_at positions.now max)) }
+    ensures positions { IfOk result (λ s. length s.weights ≡ length positions.now.weights) }
     ensures memory { IfErr result (λ f. f ≡ Memory) }
 {
-    let stripe = whole(alloc)?;
-    let Ok(rescaled) = stripe.rescale(alloc, max as u64) else {
+    let Ok(rescaled) = positions.rescale(alloc, max as u64) else {
         return Err(PlanFault::Memory);
     };
     Ok(rescaled)
 }
 
 // How many of these users a position has.
-pub fn share_of(stripe: &Stripe, position: usize, users: u32) -> u32
-    requires { position < length stripe.now.weights }
-    ensures { result ≡ share_at stripe.now.owners position users }
+pub fn share_of(positions: &Stripe, position: usize, users: u32) -> u32
+    requires { position < length positions.now.weights }
+    ensures { result ≡ share_at positions.now.owners position users }
 {
-    stripe.share(position, users as u64) as u32
+    positions.share(position, users as u64) as u32
 }

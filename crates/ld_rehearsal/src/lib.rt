@@ -11,5 +11,3 @@ pub use fault::RehearsalFault;
 pub use full::FullJournal;
 pub use play::{Rehearsed, rehearse};
 
-#[cfg(test)]
-mod tests;

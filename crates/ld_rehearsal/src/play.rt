@@ -12,7 +12,7 @@ use ld_plan::Plan;
 use std::alloc::Global;
 
 /// What was rehearsed.
-#[derive(Debug, Drop)]
+#[derive(Drop)]
 pub struct Rehearsed {
     /// The plan.
     pub plan: Plan,

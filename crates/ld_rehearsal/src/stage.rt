@@ -21,7 +21,7 @@ pub enum Said {
 }
 
 /// A rehearsal under way.
-#[derive(Debug, Drop)]
+#[derive(Drop)]
 pub struct Stage {
     pub(crate) core: Core,
     pub(crate) dues: Dues,

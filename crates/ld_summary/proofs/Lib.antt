@@ -1,2 +1,3 @@
 mod ActLemmas
 mod ScenarioLemmas
+mod PlannedLemmas

@@ -1,12 +1,13 @@
 -- The scenarios of a test, with their numbers.
-use Rattle.std.proofs.Common.{◌≡◌, ◌<◌, ◌+◌, ◌∙◌, ◌∷◌, ◌++◌, [], ℕ, List, length, get_or, map, take, arith, ap, sym, refl, zero-add}
+use Rattle.std.proofs.Common.{◌≡◌, ◌<◌, ◌+◌, ◌∙◌, ◌∷◌, ◌++◌, [], ℕ, List, length, get_or, map, take, arith, ap, sym, refl, zero-add, append_assoc}
 use Rattle.std.proofs.Math.Seq.{take-length}
 use Rattle.std.proofs.lemmas.List.FromFn.{get_or-enumerate_from, length-enumerate_from}
 use Rattle.std.proofs.lemmas.Option.{get_or_from_slice_get, slice_get-get_or, slice_get_within}
 use Rattle.std.specs.List.{concat, enumerate_from}
 use Rattle.std.specs.Option.{IsSomeAnd}
-use Rattle.std.specs.Prelude.{None, Option, Some, slice_get, sum_by}
+use Rattle.std.specs.Prelude.{Err, None, Ok, OnErr, Option, Result, Some, slice_get, sum_by}
 use Rattle.ld_base.specs.History.{HistoryView}
+use Rattle.ld_line.specs.Line.{Grows}
 use Rattle.ld_line.proofs.LineLemmas.{one_added}
 use Rattle.ld_plan.specs.PlanView.{PlanView, Whole}
 use Rattle.ld_summary.specs.Counts.{acts_of, counts_of}
@@ -67,3 +68,12 @@ all_scenarios plans histories first n a b at_first count so_far =
     so_far
     ∙ ap (λ (ps : List (ℕ × Whole)). a ++ concat (map (line_of plans histories) ps))
     (all_numbered (wholes_of plans) n (count ∙ ap (λ (ws : List Whole). length ws) (sym (first_wholes plans first at_first))))
+
+-- what grows behind a front that has grown has grown
+pub grows_more : (a b c front : List ℕ) → b ≡ a ++ front → Grows b c → Grows a c
+grows_more a b c front is grown = (front ++ grown.0, grown.1 ∙ ap (λ (x : List ℕ). x ++ grown.0) is ∙ append_assoc a front grown.0)
+
+-- what holds holds behind an error
+pub on_err : {A E : Type 0} {P : Type 0} (result : Result A E) → P → OnErr result P
+on_err (Ok x) holds = tt
+on_err (Err e) holds = holds

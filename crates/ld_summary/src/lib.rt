@@ -11,5 +11,3 @@ mod text;
 pub use fault::SummaryFault;
 pub use text::summary_text;
 
-#[cfg(test)]
-mod tests;

@@ -2,7 +2,7 @@ use Rattle.std.proofs.Common.{◌+◌, refl}
 use Rattle.ld_base.specs.declared.act.Act.TheVariants.{Grow, Start}
 use Rattle.ld_machine.specs.Moves.{AnswerArrival, GrowAndStart}
 use Rattle.ld_core.specs.CoreView.{state_of}
-use Rattle.ld_core.proofs.AskLemmas.{answered_next, grown_below, grown_more, holds_grown, next_still, performed_two, refused_act, room_at_all, room_left, room_still}
+use Rattle.ld_core.proofs.AskLemmas.{answered_next, grown_below, grown_more, holds_grown, next_still, performed_two, refused_act, room_at_all, room_left, room_still, samples_left, samples_still}
 use Rattle.ld_core.proofs.machine.Core.act_grow.Goals as goal
 
 pub returns-in-Some : goal.returns-in-Some
@@ -25,6 +25,11 @@ pub start-requires-clause-next : goal.start-requires-clause-next
 start-requires-clause-next c =
     next_still c.args.self.now c.in-None.ensures.single c.args.thread c.args.reading c.grow-user.new.self (holds_grown c.args.self.now c.in-None.ensures.single c.args.thread c.args.reading c.grow-user.new.self c.grow-user.result c.args.slot c.grow-user.ensures.added) c.args.item
     (answered_next c.args.self.now c.in-None.ensures.single c.args.thread c.args.reading c.requires.first.0 c.args.item c.args.until (GrowAndStart ((state_of c.args.self.now).made + 1) c.args.slot) c.requires.first.1)
+
+pub start-requires-clause-samples : goal.start-requires-clause-samples
+start-requires-clause-samples c =
+    samples_still c.args.self.now c.in-None.ensures.single c.args.thread c.args.reading c.grow-user.new.self (holds_grown c.args.self.now c.in-None.ensures.single c.args.thread c.args.reading c.grow-user.new.self c.grow-user.result c.args.slot c.grow-user.ensures.added)
+    (samples_left c.args.self.now 2 c.in-None.ensures.refusal)
 
 pub start-requires-clause-room : goal.start-requires-clause-room
 start-requires-clause-room c =

@@ -1,7 +1,7 @@
 use Rattle.std.proofs.Common.{refl}
 use Rattle.ld_base.specs.declared.act.Act.TheVariants.{Start}
 use Rattle.ld_machine.specs.Moves.{AnswerArrival, StartOn}
-use Rattle.ld_core.proofs.AskLemmas.{answered_next, performed_act, refused_act, room_left, started_idle}
+use Rattle.ld_core.proofs.AskLemmas.{answered_next, performed_act, refused_act, room_left, samples_left, started_idle}
 use Rattle.ld_core.proofs.machine.Core.act_start.Goals as goal
 
 pub returns-in-Some : goal.returns-in-Some
@@ -13,6 +13,9 @@ start-requires-clause-idle c = started_idle c.args.self.now c.in-None.ensures.si
 
 pub start-requires-clause-next : goal.start-requires-clause-next
 start-requires-clause-next c = answered_next c.args.self.now c.in-None.ensures.single c.args.thread c.args.reading c.requires.first.0 c.args.item c.args.until (StartOn c.args.user) c.requires.first.1
+
+pub start-requires-clause-samples : goal.start-requires-clause-samples
+start-requires-clause-samples c = samples_left c.args.self.now 1 c.in-None.ensures.refusal
 
 pub start-requires-clause-room : goal.start-requires-clause-room
 start-requires-clause-room c = room_left c.args.self.now 1 1 c.in-None.ensures.refusal

@@ -1,7 +1,7 @@
 use Rattle.std.proofs.Common.{refl}
 use Rattle.ld_base.specs.declared.act.Act.TheVariants.{Take, Start}
 use Rattle.ld_machine.specs.Moves.{AnswerArrival, TakeAndStart}
-use Rattle.ld_core.proofs.AskLemmas.{holds_taken, next_still, performed_two, refused_with, room_at_all, room_left, room_still, taken_for_more, taken_for_next}
+use Rattle.ld_core.proofs.AskLemmas.{holds_taken, next_still, performed_two, refused_with, room_at_all, room_left, room_still, samples_left, samples_still, taken_for_more, taken_for_next}
 use Rattle.ld_core.proofs.machine.Core.act_take_for.Goals as goal
 
 pub returns-in-Some : goal.returns-in-Some
@@ -19,6 +19,11 @@ pub start-requires-clause-next : goal.start-requires-clause-next
 start-requires-clause-next c =
     next_still c.args.self.now c.in-None.ensures.single c.args.thread c.args.reading c.take-user.new.self (holds_taken c.args.self.now c.in-None.ensures.single c.args.thread c.args.reading c.take-user.new.self c.take-user.result c.args.slot c.take-user.ensures.added) c.args.item
     (taken_for_next c.args.self.now c.in-None.ensures.single c.args.thread c.args.reading c.args.item c.args.until c.args.slot c.requires.first)
+
+pub start-requires-clause-samples : goal.start-requires-clause-samples
+start-requires-clause-samples c =
+    samples_still c.args.self.now c.in-None.ensures.single c.args.thread c.args.reading c.take-user.new.self (holds_taken c.args.self.now c.in-None.ensures.single c.args.thread c.args.reading c.take-user.new.self c.take-user.result c.args.slot c.take-user.ensures.added)
+    (samples_left c.args.self.now 2 c.in-None.ensures.refusal)
 
 pub start-requires-clause-room : goal.start-requires-clause-room
 start-requires-clause-room c =

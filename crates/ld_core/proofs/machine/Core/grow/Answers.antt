@@ -1,4 +1,4 @@
-use Rattle.std.proofs.Common.{◌+◌, arith, length}
+use Rattle.std.proofs.Common.{◌+◌, arith, length, refl}
 use Rattle.ld_core.proofs.CoreLemmas.{core_behind, room_for, scenario_behind}
 use Rattle.ld_core.proofs.FoundLemmas.{idle_now, more_shown}
 use Rattle.ld_core.proofs.PartsLemmas.{users_long}
@@ -24,7 +24,7 @@ invariant_of-self c =
     let room = rw (← c.self.view_is) at c.requires.room in
     let below = rw (← c.self.view_is) at c.requires.below in
     let long = users_long (parts_shown c.self.invariant.shows) in
-    core_behind _ _ _ _ _ _ _ c.self.invariant c.record.ensures.entries c.record.ensures.room
+    core_behind _ _ _ _ _ _ _ c.self.invariant c.record.ensures.entries c.record.ensures.room refl
     (shows_grown c.self.invariant.shows (length c.self.inside.history.entries + 1) c.args.thread c.args.reading _ c.grow.new.self c.in-Some.user c.args.slot c.record.ensures.follows room
     below (omega (arith, long, c.in-Some.ensures.number)) c.in-Some.ensures.held)
 

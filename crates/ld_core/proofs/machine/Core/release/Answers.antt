@@ -16,5 +16,5 @@ pub invariant_of-self : goal.invariant_of-self
 invariant_of-self c =
     let room = rw (← c.self.view_is) at c.requires.room in
     let f = idle_in c.self.inside c.args.user c.self.invariant (rw (← c.self.view_is) at c.requires.idle) in
-    core_behind _ _ _ _ _ _ _ c.self.invariant c.record.ensures.entries c.record.ensures.room
+    core_behind _ _ _ _ _ _ _ c.self.invariant c.record.ensures.entries c.record.ensures.room refl
     (shows_released c.self.invariant.shows (length c.self.inside.history.entries + 1) c.args.thread c.args.reading _ c.release.new.self c.args.user f.h c.record.ensures.follows room f.found f.is f.some c.release.ensures)

@@ -1,4 +1,4 @@
-use Rattle.std.proofs.Common.{◌+◌, ◌-◌, ◌∙◌, ap, arith, length, set}
+use Rattle.std.proofs.Common.{◌+◌, ◌-◌, ◌∙◌, ap, arith, length, set, refl}
 use Rattle.ld_base.specs.Stint.{StintView}
 use Rattle.ld_pool.specs.Users.{busy_with}
 use Rattle.ld_core.proofs.CoreLemmas.{core_behind, idle_in, room_for}
@@ -32,9 +32,10 @@ pub invariant_of-self : goal.invariant_of-self
 invariant_of-self c =
     let pool = c.self.inside.pool in
     let room = rw (← c.self.view_is) at c.requires.room in
+    let space = rw (← c.self.view_is) at c.requires.samples in
     let f = idle_in c.self.inside c.args.user c.self.invariant (rw (← c.self.view_is) at c.requires.idle) in
     let pool_is = c.start-stint.ensures.busy
     ∙ ap (λ (s : StintView). record pool { users = set pool.users (c.args.user - 1) (busy_with s) }) c.start-stint.ensures.stint in
-    core_behind _ _ _ _ _ _ _ c.self.invariant c.record.ensures.entries c.record.ensures.room
+    core_behind _ _ _ _ _ _ _ c.self.invariant c.record.ensures.entries c.record.ensures.room refl
     (shows_started c.self.invariant.shows (length c.self.inside.history.entries + 1) c.args.thread c.args.reading _ c.start-stint.new.self c.put.new.self c.args.user c.args.item c.args.until
-    f.h c.record.ensures.follows room f.found f.is f.some f.within pool_is c.put.ensures)
+    f.h c.record.ensures.follows room space f.found f.is f.some f.within pool_is c.put.ensures)

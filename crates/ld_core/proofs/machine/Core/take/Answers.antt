@@ -1,4 +1,4 @@
-use Rattle.std.proofs.Common.{◌+◌, arith, length}
+use Rattle.std.proofs.Common.{◌+◌, arith, length, refl}
 use Rattle.ld_core.proofs.CoreLemmas.{core_behind, room_for, scenario_behind}
 use Rattle.ld_core.proofs.FoundLemmas.{free_listed, free_said, free_there, idle_now, more_shown}
 use Rattle.ld_core.proofs.BehindLemmas.{of_shown, shows_taken}
@@ -17,7 +17,7 @@ pub invariant_of-self : goal.invariant_of-self
 invariant_of-self c =
     let room = rw (← c.self.view_is) at c.requires.room in
     let free = free_said c.self.invariant.shows c.in-Some.user c.in-Some.ensures.free in
-    core_behind _ _ _ _ _ _ _ c.self.invariant c.record.ensures.entries c.record.ensures.room
+    core_behind _ _ _ _ _ _ _ c.self.invariant c.record.ensures.entries c.record.ensures.room refl
     (shows_taken c.self.invariant.shows (length c.self.inside.history.entries + 1) c.args.thread c.args.reading _ c.take.new.self c.in-Some.user c.args.slot c.record.ensures.follows room
     free.2 free.0 free.1 c.in-Some.ensures.held)
 

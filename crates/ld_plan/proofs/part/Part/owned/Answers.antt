@@ -9,12 +9,12 @@ pub returns-clause-owned : goal.returns-clause-owned
 returns-clause-owned c =
     rw (sym c.self.view_is)
     (c.share.ensures.share
-    ∙ ap (share_at c.self.inside.stripe.owners c.self.inside.position) c.count.ensures.count
+    ∙ ap (share_at c.self.inside.items.owners c.self.inside.position) c.count.ensures.count
     ∙ sym (owned_share (whole_view c.self.inside) c.self.inside.position c.count.ensures.limits))
 
 pub returns-clause-few : goal.returns-clause-few
 returns-clause-few c =
     let share = c.share.ensures.share in
     let few = c.count.ensures.few in
-    let most = share_at_most c.self.inside.stripe.owners c.self.inside.position c.count.result in
+    let most = share_at_most c.self.inside.items.owners c.self.inside.position c.count.result in
     omega arith

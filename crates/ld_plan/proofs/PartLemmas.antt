@@ -1,0 +1,120 @@
+-- What a position owns of each scenario, and that there is one such list of parts.
+use Rattle.std.proofs.Common.{◌≡◌, ◌<◌, ◌≤◌, ◌∙◌, inl, inr, ℕ, zero, suc, List, [], ◌∷◌, length, slice_get, arith, ap, ap₂, refl, sym, subst}
+use Rattle.std.specs.Prelude.{Some, None}
+use Rattle.std.specs.List.{AllByRecursion, AllZip}
+use Rattle.std.proofs.lemmas.Option.{slice_get_within}
+use Rattle.ld_num.specs.declared.fraction.Frac.{Frac}
+use Rattle.ld_segment.specs.Refusal.{ends}
+use Rattle.ld_segment.specs.Segments.{segments_of}
+use Rattle.ld_segment.specs.declared.segment.Segment.{Segment}
+use Rattle.ld_segment.proofs.FillingLemmas.{one_position}
+use Rattle.ld_stripe.specs.Striping.{Striping, share_at, shares_at}
+use Rattle.ld_arrival.specs.Limits.{IsWithinLimits}
+use Rattle.ld_machine.specs.Plan.{Part}
+use Rattle.ld_options.specs.Ranges.{IsInRange, IsScenarioInRange, AreArrivalsInRange}
+use Rattle.ld_options.specs.declared.executor.Executor.{Executor}
+use Rattle.ld_options.specs.declared.executor.Executor.TheVariants.{ConstantArrivals}
+use Rattle.ld_options.specs.declared.options.Options.{Options}
+use Rattle.ld_options.specs.declared.scenario.Scenario.{Scenario}
+use Rattle.ld_plan.specs.Executor.{timetable_of, pre_of, max_of}
+use Rattle.ld_plan.specs.IsPlanOf.{AreOwned, AreParts, IsItemStriping, IsPartOf, IsSound, part_of, sample_room, whole_of}
+use Rattle.ld_plan.specs.PartView.{PartView}
+use Rattle.ld_plan.specs.PlanView.{Whole}
+use Rattle.ld_plan.proofs.StripingLemmas.{IsSpread, one_rescaled, one_sequence_striping, rescaled_spread, sequence_spread, sequence_striping, striping_of}
+
+-- numbers in their ranges: the timetable is within the limits
+pub within_limits : (e : Executor) → IsInRange e → IsWithinLimits (timetable_of e)
+within_limits (ConstantArrivals rate unit duration pre max) ranges =
+    let rates = ranges.rates in
+    let units = ranges.units in
+    let durations = ranges.durations in
+    let rate_least = rates.at_least in
+    let rate_most = rates.at_most in
+    let unit_least = units.at_least in
+    let unit_most = units.at_most in
+    let duration_least = durations.at_least in
+    let duration_most = durations.at_most in
+    record {
+      rate = λ bad. elim bad [ inl none ↦ absurd (omega arith) | inr over ↦ absurd (omega arith) ];
+      duration = λ bad. elim bad [
+        | inl unit_bad ↦ elim unit_bad [ inl none ↦ absurd (omega arith) | inr over ↦ absurd (omega arith) ]
+        | inr duration_bad ↦ elim duration_bad [ inl none ↦ absurd (omega arith) | inr over ↦ absurd (omega arith) ]
+      ];
+    }
+
+-- some user may be there, at most 1,000, and no more are made before than there may be
+pub some_users : (e : Executor) → IsInRange e → 1 ≤ max_of e
+some_users (ConstantArrivals rate unit duration pre max) ranges = let users = ranges.users in users.at_least
+
+pub few_users : (e : Executor) → IsInRange e → max_of e ≤ 1000
+few_users (ConstantArrivals rate unit duration pre max) ranges = let users = ranges.users in users.at_most
+
+pub pre_within : (e : Executor) → IsInRange e → pre_of e ≤ max_of e
+pre_within (ConstantArrivals rate unit duration pre max) ranges = ranges.above_planned
+
+-- a position owns one part of a scenario
+one_part : (room : ℕ) (striping : Striping) (n j : ℕ) (s : Scenario) (a b : PartView) → IsSpread striping n → IsInRange s.executor →
+    IsPartOf room striping j s a → IsPartOf room striping j s b → a ≡ b
+one_part room striping n j s a b spread ranges of_a of_b =
+    let same = one_rescaled striping of_a.items of_b.items n (max_of s.executor) spread (some_users s.executor ranges) of_a.rescaled of_b.rescaled in
+    let part = of_a.part_is ∙ ap (λ (items : Striping). part_of room striping items j s) same ∙ sym of_b.part_is in
+    let whole = of_a.whole_is ∙ ap (λ (items : Striping). whole_of items s) same ∙ sym of_b.whole_is in
+    ap₂ (λ (p : Part) (w : Whole). record { part = p; whole = w }) part whole
+
+-- and so one list of parts of scenarios
+one_list : {X Y : Type 0} (P : X → Type 0) (R : X → Y → Type 0) → ((x : X) (a b : Y) → P x → R x a → R x b → a ≡ b) →
+    (xs : List X) (ls ms : List Y) → AllByRecursion P xs → AllZip R xs ls → AllZip R xs ms → ls ≡ ms
+one_list P R one [] [] [] all of_a of_b = refl
+one_list P R one [] [] (b ∷ ms) all of_a of_b = absurd of_b
+one_list P R one [] (a ∷ ls) ms all of_a of_b = absurd of_a
+one_list P R one (x ∷ xs) [] ms all of_a of_b = absurd of_a
+one_list P R one (x ∷ xs) (a ∷ ls) [] all of_a of_b = absurd of_b
+one_list P R one (x ∷ xs) (a ∷ ls) (b ∷ ms) all of_a of_b =
+    ap₂ (λ y ys. y ∷ ys) (one x a b all.0 of_a.0 of_b.0) (one_list P R one xs ls ms all.1 of_a.1 of_b.1)
+
+one_owned : (options : Options) (striping : Striping) (n j : ℕ) (ls ms : List PartView) → IsSpread striping n → AllByRecursion IsScenarioInRange options.scenarios →
+    AreOwned options striping j ls → AreOwned options striping j ms → ls ≡ ms
+one_owned options striping n j ls ms spread ranges of_a of_b =
+    one_list IsScenarioInRange (λ (s : Scenario). IsPartOf (sample_room options.scripts.scripts s.script) striping j s)
+    (λ s a b range in_a in_b. one_part (sample_room options.scripts.scripts s.script) striping n j s a b spread range.executor in_a in_b)
+    options.scenarios ls ms ranges of_a of_b
+
+-- a segment has one position
+pub one_place : (options : Options) (segment : Segment) (sequence : List Frac) (p q : ℕ) (ls ms : List PartView) → IsSound options sequence →
+    AreParts options segment sequence p ls → AreParts options segment sequence q ms → p ≡ q
+one_place options segment sequence p q ls ms sound of_a of_b =
+    one_position sequence p q (ends segment) sound.is_sequence of_a.stands of_b.stands
+
+-- and so one list of parts
+pub one_parts : (options : Options) (segment : Segment) (sequence : List Frac) (p q : ℕ) (ls ms : List PartView) → IsSound options sequence →
+    AreParts options segment sequence p ls → AreParts options segment sequence q ms → ls ≡ ms
+one_parts options segment sequence p q ls ms sound of_a of_b =
+    let place = one_place options segment sequence p q ls ms sound of_a of_b in
+    let striping = one_sequence_striping sequence of_a.striping of_b.striping sound.filled of_a.striped of_b.striped in
+    let spread = sequence_spread sequence of_b.striping sound.filled of_b.striped in
+    let there : AreOwned options of_b.striping q ls =
+    subst (λ j. AreOwned options of_b.striping j ls) place
+    (subst (λ (s : Striping). AreOwned options s p ls) striping of_a.owned) in
+    one_owned options of_b.striping (length (segments_of sequence)) q ls ms spread sound.in_range there of_b.owned
+
+-- there are parts
+parts_of_scenarios : (options : Options) (striping : Striping) (j : ℕ) (scenarios : List Scenario) →
+    (views : List PartView) × AllZip (λ (s : Scenario). IsPartOf (sample_room options.scripts.scripts s.script) striping j s) scenarios views
+parts_of_scenarios options striping j [] = ([], tt)
+parts_of_scenarios options striping j (s ∷ rest) =
+    let items = striping_of (shares_at striping (max_of s.executor)) in
+    let room = sample_room options.scripts.scripts s.script in
+    let view : PartView = record { part = part_of room striping items.0 j s; whole = whole_of items.0 s } in
+    let others = parts_of_scenarios options striping j rest in
+    (view ∷ others.0, (record { items = items.0; rescaled = items.1; part_is = refl; whole_is = refl }, others.1))
+
+pub some_parts : (options : Options) (segment : Segment) (sequence : List Frac) (j : ℕ) → IsSound options sequence →
+    slice_get (segments_of sequence) j ≡ Some (ends segment) → (views : List PartView) × AreParts options segment sequence j views
+some_parts options segment sequence j sound stands =
+    let striping = sequence_striping sequence sound.filled in
+    let found = parts_of_scenarios options striping.0 j options.scenarios in
+    (found.0, record { stands = stands; striping = striping.0; striped = striping.1; owned = found.1 })
+
+-- a segment of the sequence has a position of it
+pub place_inside : (segment : Segment) (sequence : List Frac) (j : ℕ) → slice_get (segments_of sequence) j ≡ Some (ends segment) → j < length (segments_of sequence)
+place_inside segment sequence j stands = slice_get_within (segments_of sequence) j (ends segment) stands
