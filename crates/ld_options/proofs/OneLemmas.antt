@@ -4,8 +4,10 @@ use mathlib.Core.HLevel.{is_prop→PathP}
 use Rattle.std.proofs.Props.{props}
 use Rattle.std.specs.Prelude.{◌⊎◌, Option, Result, Ok, Err, Some, codes}
 use Rattle.std.specs.List.{AllZip}
+use Rattle.ld_json.specs.Document.{IsDocument}
 use Rattle.ld_json.specs.Node.{NodeView}
 use Rattle.ld_json.specs.Pointer.{member_path}
+use Rattle.serde_json.specs.Data.{Data}
 use Rattle.ld_options.specs.Document.{AreOptions, AreOptionsOf, IsRefusal, OfScripts, RefusesDocument, root_of, script_names, scripts_in, scenarios_in}
 use Rattle.ld_options.specs.Executors.{IsExecutor, RefusesArrivals, RefusesExecutor, RefusesGreatest, greatest}
 use Rattle.ld_options.specs.Faults.{Refused, of_script}
@@ -15,7 +17,7 @@ use Rattle.ld_options.specs.Times.{IsSpan, IsTime, RefusesSpan, RefusesTime, spa
 use Rattle.ld_options.specs.declared.executor.Executor.{Executor}
 use Rattle.ld_options.specs.declared.executor.Executor.TheVariants as executors
 use Rattle.ld_options.specs.declared.fault.OptionsFault.{OptionsFault}
-use Rattle.ld_options.specs.declared.fault.OptionsFault.TheVariants.{Number}
+use Rattle.ld_options.specs.declared.fault.OptionsFault.TheVariants.{NotJson, Number}
 use Rattle.ld_options.specs.declared.kind.Kind.{Kind}
 use Rattle.ld_options.specs.declared.kind.Kind.TheVariants as kinds
 use Rattle.ld_options.specs.declared.options.Options.{Options}
@@ -170,14 +172,12 @@ document_single root =
 
 -- bytes are refused with one fault
 pub one_refusal : (bytes : List ℕ) → IsSingle (IsRefusal bytes)
-one_refusal bytes f g (inl left) (inl right) = left.1 ∙ sym right.1
-one_refusal bytes f g (inl left) (inr right) = absurd (left.0 right.0 right.1)
-one_refusal bytes f g (inr left) (inl right) = absurd (right.0 left.0 left.1)
-one_refusal bytes f g (inr left) (inr right) =
-    document_single (root_of right.0) f g (subst (λ d. RefusesDocument (root_of d) f) (one_document bytes left.0 right.0 left.1 right.1) left.2) right.2
-
--- bytes that mean options aren't refused
-pub apart : (bytes : List ℕ) (options : Options) (f : OptionsFault) → AreOptions bytes options → IsRefusal bytes f → ⊥
-apart bytes options f are (inl r) = r.0 are.held are.document
-apart bytes options f are (inr r) =
-    are.accepted f (subst (λ d. RefusesDocument (root_of d) f) (one_document bytes r.0 are.held r.1 are.document) r.2)
+one_refusal bytes f g left right = same left.refused right.refused
+  where
+    same : (((d : Data) → IsDocument bytes d → ⊥) × (f ≡ NotJson)) ⊎ ((d : Data) × IsDocument bytes d × RefusesDocument (root_of d) f) →
+        (((d : Data) → IsDocument bytes d → ⊥) × (g ≡ NotJson)) ⊎ ((d : Data) × IsDocument bytes d × RefusesDocument (root_of d) g) → f ≡ g
+    same (inl left) (inl right) = left.1 ∙ sym right.1
+    same (inl left) (inr right) = absurd (left.0 right.0 right.1)
+    same (inr left) (inl right) = absurd (right.0 left.0 left.1)
+    same (inr left) (inr right) =
+        document_single (root_of right.0) f g (subst (λ d. RefusesDocument (root_of d) f) (one_document bytes left.0 right.0 left.1 right.1) left.2) right.2

@@ -3,7 +3,7 @@ use Rattle.std.proofs.Common.{◌≡◌, ◌<◌, ◌≤◌, ◌+◌, ◌∙◌,
 use Rattle.std.specs.List.{AllByRecursion, AllZip}
 use Rattle.std.proofs.lemmas.List.{take_all, take_more}
 use Rattle.std.proofs.lemmas.List.Elements.{All-push}
-use Rattle.std.specs.Prelude.{IfOk, OnOk, Option, Some, Result, Ok, Err}
+use Rattle.std.specs.Prelude.{◌⊎◌, IfOk, OnOk, Option, Some, Result, Ok, Err}
 use Rattle.ld_json.specs.Document.{IsDocument}
 use Rattle.ld_json.specs.Node.{NodeView}
 use Rattle.ld_json.specs.Rules.{Accepts}
@@ -12,6 +12,7 @@ use Rattle.ld_options.specs.Document.{AreOptions, AreOptionsOf, IsRefusal, OfScr
 use Rattle.ld_options.specs.Ranges.{AreInRange, IsScenarioInRange}
 use Rattle.ld_options.specs.Scenarios.{IsScenarioOf, RefusesScenario}
 use Rattle.ld_options.specs.declared.fault.OptionsFault.{OptionsFault}
+use Rattle.ld_options.specs.declared.fault.OptionsFault.TheVariants.{NotJson}
 use Rattle.ld_options.specs.declared.options.Options.{Options}
 use Rattle.ld_options.specs.declared.scenario.Scenario.{Scenario}
 use Rattle.ld_script.specs.Refusal.{Member, RefusesScripts}
@@ -82,13 +83,23 @@ pub one_document : (bytes : List ℕ) (d e : Data) → IsDocument bytes d → Is
 one_document bytes d e of_d of_e = some_same d e (sym of_d.read ∙ of_e.read)
 
 -- bytes of a document that isn't refused aren't refused
-pub document_accepts : (bytes : List ℕ) (d : Data) → IsDocument bytes d → Accepts (RefusesDocument (root_of d)) → Accepts (IsRefusal bytes)
+document_accepts : (bytes : List ℕ) (d : Data) → IsDocument bytes d → Accepts (RefusesDocument (root_of d)) → (fault : OptionsFault) →
+    (((e : Data) → IsDocument bytes e → ⊥) × (fault ≡ NotJson)) ⊎ ((e : Data) × IsDocument bytes e × RefusesDocument (root_of e) fault) → ⊥
 document_accepts bytes d is accepts fault (inl r) = r.0 d is
 document_accepts bytes d is accepts fault (inr r) =
     accepts fault (subst (λ e. RefusesDocument (root_of e) fault) (one_document bytes r.0 d r.1 is) r.2)
 
+-- bytes that mean options aren't refused
+pub apart : (bytes : List ℕ) (options : Options) (fault : OptionsFault) → AreOptions bytes options → IsRefusal bytes fault → ⊥
+apart bytes options fault are refusal = document_accepts bytes are.held are.document are.accepted fault refusal.refused
+
 -- what is read of a document of which nothing is refused are its options
 pub read_options : (bytes : List ℕ) (d : Data) (result : Result Options OptionsFault) → IsDocument bytes d → IfOk result (AreOptionsOf (root_of d)) →
-    OnOk result (Accepts (RefusesDocument (root_of d))) → IfOk result (AreOptions bytes)
-read_options bytes d (Ok options) is are accepts = record { held = d; document = is; options_are = are; accepted = accepts }
-read_options bytes d (Err fault) is are accepts = tt
+    IfOk result (λ options. AreInRange options.scenarios) → OnOk result (Accepts (RefusesDocument (root_of d))) → IfOk result (AreOptions bytes)
+read_options bytes d (Ok options) is are within accepts =
+    record { held = d; document = is; options_are = are; in_range = within; accepted = accepts }
+read_options bytes d (Err fault) is are within accepts = tt
+
+-- bytes of a document of which nothing is refused aren't refused
+pub read_accepts : (bytes : List ℕ) (d : Data) → IsDocument bytes d → Accepts (RefusesDocument (root_of d)) → Accepts (IsRefusal bytes)
+read_accepts bytes d is accepts fault refusal = document_accepts bytes d is accepts fault refusal.refused

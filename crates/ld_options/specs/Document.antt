@@ -1,5 +1,5 @@
 -- Documents of tests: the options that one means, or what is refused of it first.
-use Rattle.std.specs.Prelude.{◌≡◌, ◌⊎◌, ℕ, List, [], Result, codes, length, map, unwrap_or}
+use Rattle.std.specs.Prelude.{◌≡◌, ◌≢◌, ◌⊎◌, ℕ, List, [], Result, codes, length, map, unwrap_or}
 use Rattle.std.specs.List.{AllZip}
 use Rattle.ld_json.specs.Document.{IsDocument}
 use Rattle.ld_json.specs.Known.{allowed}
@@ -8,9 +8,10 @@ use Rattle.ld_json.specs.Pointer.{member_path}
 use Rattle.ld_json.specs.Rules.{Accepts, FirstOf, Then}
 use Rattle.ld_options.specs.Faults.{Refused, and_then, of_node, of_script}
 use Rattle.ld_options.specs.Fields.{ranged}
+use Rattle.ld_options.specs.Ranges.{AreInRange}
 use Rattle.ld_options.specs.Scenarios.{IsScenarioOf, RefusesScenario}
 use Rattle.ld_options.specs.declared.fault.OptionsFault.{OptionsFault}
-use Rattle.ld_options.specs.declared.fault.OptionsFault.TheVariants.{NotJson}
+use Rattle.ld_options.specs.declared.fault.OptionsFault.TheVariants.{Memory, NotJson}
 use Rattle.ld_options.specs.declared.options.Options.{Options}
 use Rattle.ld_options.specs.declared.range.Range.{Range}
 use Rattle.ld_script.specs.Refusal.{Member, RefusesScripts, members_of}
@@ -90,10 +91,12 @@ pub record AreOptions (bytes : List ℕ) (options : Options) : Type 0 where
   pub held : Data
   pub document : IsDocument bytes held
   pub options_are : AreOptionsOf (root_of held) options
+  pub in_range : AreInRange options.scenarios
   pub accepted : Accepts (RefusesDocument (root_of held))
 
--- the bytes are refused: as no document, or else what they say
-abbrev pub IsRefusal : List ℕ → OptionsFault → Type 0
-IsRefusal bytes fault =
-    (((d : Data) → IsDocument bytes d → ⊥) × (fault ≡ NotJson))
-    ⊎ ((d : Data) × IsDocument bytes d × RefusesDocument (root_of d) fault)
+-- the bytes are refused: as no document, or else what they say; want of memory is no refusal of theirs
+pub record IsRefusal (bytes : List ℕ) (fault : OptionsFault) : Type 0 where
+  pub not_memory : fault ≢ Memory
+  pub refused :
+      (((d : Data) → IsDocument bytes d → ⊥) × (fault ≡ NotJson))
+      ⊎ ((d : Data) × IsDocument bytes d × RefusesDocument (root_of d) fault)

@@ -126,6 +126,7 @@ fn read_scenarios(
 ) -> Result<Scenarios, OptionsFault>
     requires { paired node.now ≡ Ok (members_of node.now) }
     ensures value { IfOk result (λ list. AllZip (IsScenarioOf scripts.now.names) (members_of node.now) list) }
+    ensures within { IfOk result (λ list. AreInRange list) }
     ensures known { IfOk result (λ list. All (λ s. s.script < length scripts.now.names) list) }
     ensures accepted { OnOk result (Accepts (FirstOf (RefusesScenario scripts.now.names) (members_of node.now))) }
     ensures refused { IfErr result (λ f. f ≢ Memory → FirstOf (RefusesScenario scripts.now.names) (members_of node.now) f) }
@@ -138,6 +139,7 @@ fn read_scenarios(
 // The options that a document says.
 pub(crate) fn read_root(alloc: Global, root: &Node<'_>) -> Result<Options, OptionsFault>
     ensures value { IfOk result (AreOptionsOf root.now) }
+    ensures within { IfOk result (λ options. AreInRange options.scenarios) }
     ensures accepted { OnOk result (Accepts (RefusesDocument root.now)) }
     ensures refused { IfErr result (λ f. f ≢ Memory → RefusesDocument root.now f) }
 {

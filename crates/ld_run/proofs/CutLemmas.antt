@@ -21,10 +21,10 @@ use Rattle.ld_stripe.specs.declared.fault.StripeFault.TheVariants as stripes
 use Rattle.std.proofs.lemmas.Bool.Decides.{nat_tests}
 use Rattle.std.proofs.lemmas.List.Quantifiers.{position-Some}
 use Rattle.ld_stripe.proofs.LowestTermsLemmas.{period_at_most, sum_positive}
-use Rattle.ld_run.specs.Cut.{sequence_line, segment_word, AreGiven, IsCut, IsCutRefusal, IsCutText, IsGivenRefusal, IsPartRefusal, IsPartText, RefusesPart}
+use Rattle.ld_run.specs.Cut.{sequence_line, segment_word, AreGiven, IsCut, IsCutRefusal, IsCutText, IsGivenRefusal, IsPartRefusal, IsPartText, RefusesCut, RefusesPart}
 use Rattle.ld_run.specs.Indices.{numbers_line, owned_below}
 use Rattle.ld_run.specs.declared.refusal.Refusal.{Refusal}
-use Rattle.ld_run.specs.declared.refusal.Refusal.TheVariants.{Words, Stripe, NoSuchPosition, Segment, NotInSequence, Plan, Memory}
+use Rattle.ld_run.specs.declared.refusal.Refusal.TheVariants.{Words, Stripe, NoSuchPosition, Segment, NotInSequence, Test, Plan, Memory}
 use Rattle.ld_run.proofs.StripeLemmas.{same_owners}
 
 -- ---- words cut a test in one way
@@ -81,6 +81,7 @@ part_not_refused : (count : ℕ) (from to : Frac) (points : List Frac) (text : L
 part_not_refused count from to points text (Segment f) whole has refused =
     period_not_refused points has.period has.weights whole has.weighted has.small f refused.2
 part_not_refused count from to points text NotInSequence whole has refused = refused has.position has.stands
+part_not_refused count from to points text (Test f) whole has refused = refused
 part_not_refused count from to points text (Plan f) whole has refused = refused
 part_not_refused count from to points text (Words place) whole has refused = refused
 part_not_refused count from to points text (Stripe f) whole has refused = refused
@@ -113,6 +114,7 @@ cut_text_not_refused count segment sequence text (Segment f) has refused = elim 
   ]
 ]
 cut_text_not_refused count segment sequence text NotInSequence has refused = refused_part segment sequence count text NotInSequence has refused
+cut_text_not_refused count segment sequence text (Test f) has refused = refused
 cut_text_not_refused count segment sequence text (Plan f) has refused = refused
 cut_text_not_refused count segment sequence text (Words place) has refused = refused
 cut_text_not_refused count segment sequence text (Stripe f) has refused = refused
@@ -120,8 +122,8 @@ cut_text_not_refused count segment sequence text (NoSuchPosition p) has refused 
 cut_text_not_refused count segment sequence text Memory has refused = refused
 
 -- want of memory is no refusal
-pub memory_not_refused : (segment sequence : Option (List ℕ)) → IsCutRefusal segment sequence (Segment cuts.Memory) → ⊥
-memory_not_refused segment sequence refused = elim refused [
+pub cut_memory : (segment sequence : Option (List ℕ)) → IsCutRefusal segment sequence (Segment cuts.Memory) → ⊥
+cut_memory segment sequence refused = elim refused [
   | inl at_segment ↦ segment_memory (segment_word segment) at_segment
   | inr later ↦ elim later [
     | inl at_sequence ↦ sequence_memory sequence at_sequence.1
@@ -210,8 +212,20 @@ cut_answer count segment sequence from to points cut (Err r) refused = λ named.
     part_refused : (r : Refusal) → IsPartRefusal from to points r → IsCutRefusal segment sequence r
     part_refused (Segment f) refused = inr (inr (from, to, points, cut, refused))
     part_refused NotInSequence refused = (from, to, points, cut, refused)
+    part_refused (Test f) refused = refused
     part_refused (Plan f) refused = refused
     part_refused (Words place) refused = refused
     part_refused (Stripe f) refused = refused
     part_refused (NoSuchPosition p) refused = refused
     part_refused Memory refused = refused
+
+-- what is cut isn't refused
+pub cut_not_refused : (segment sequence : Option (List ℕ)) (from to : Frac) (points : List Frac) (f : SegmentFault) →
+    IsCut segment sequence from to points → RefusesCut segment sequence f → ⊥
+cut_not_refused segment sequence from to points f cut (inl refused) = cut.segment_accepted f refused
+cut_not_refused segment sequence from to points f cut (inr refused) = cut.sequence_accepted f refused.1
+
+-- what can't be cut is refused
+pub cut_refused : (segment sequence : Option (List ℕ)) (f : SegmentFault) → RefusesCut segment sequence f → IsCutRefusal segment sequence (Segment f)
+cut_refused segment sequence f (inl refused) = inl refused
+cut_refused segment sequence f (inr refused) = inr (inl refused)

@@ -4,12 +4,9 @@ use Rattle.std.specs.Prelude.{Option, Some, None}
 use Rattle.ld_outside.specs.SinkView.{SinkView, TookFront, Rose}
 use Rattle.ld_outside.specs.ShelfView.{ShelfView}
 use Rattle.ld_machine.proofs.ListLemmas.{some_not_none}
-use Rattle.ld_plan.specs.PlanFault as plan
 use Rattle.ld_plan.specs.declared.fault.PlanFault.{PlanFault}
 use Rattle.ld_plan.specs.declared.fault.PlanFault.TheVariants as plans
-use Rattle.ld_plan.specs.declared.rate_test.RateTest.{RateTest}
 use Rattle.ld_rehearsal.specs.declared.full.FullJournal.{FullJournal}
-use Rattle.ld_run.proofs.PlanLemmas.{accepted_unrefused}
 use Rattle.ld_segment.specs.declared.fault.SegmentFault.{SegmentFault}
 use Rattle.ld_segment.specs.declared.fault.SegmentFault.TheVariants as cuts
 use Rattle.ld_stripe.specs.StripeFault as stripe
@@ -25,33 +22,41 @@ use Rattle.ld_run.specs.Cut.{IsCutRefusal}
 use Rattle.ld_run.specs.DeskRun.{IsDeskRun, IsLine}
 use Rattle.ld_run.specs.Answer.{full_line, text_alone}
 use Rattle.ld_run.specs.Delivery.{AllWritten, FileBroken, IsDelivered, IsEndLine, TextBroken}
-use Rattle.ld_run.specs.Refusal.{HasAnswer, IsAnswerOf, IsRefusalOf, IsRefused, line_of, memory_line, plan_status, segment_status, status_of, stripe_status, test_of}
-use Rattle.ld_run.specs.Rehearsal.{entry_limit, IsRehearsalRefusal}
+use Rattle.ld_run.specs.Refusal.{HasAnswer, IsAnswerOf, IsRefusalOf, IsRefused, line_of, memory_line, plan_status, segment_status, status_of, stripe_status, test_status}
+use Rattle.ld_run.specs.Rehearsal.{entry_limit, IsRehearsalRefusal, IsWholePlan, RefusesWholePlan}
 use Rattle.ld_run.specs.Saying.{IsRefusalSaid, Says, Untouched, write_line}
 use Rattle.ld_run.specs.declared.answer.Answer.{Answer}
 use Rattle.ld_run.specs.declared.refusal.Refusal.{Refusal}
-use Rattle.ld_run.specs.declared.refusal.Refusal.TheVariants.{Words, Stripe, NoSuchPosition, Segment, NotInSequence, Plan, Memory}
-use Rattle.ld_run.proofs.CutLemmas.{cut_text_not_refused, memory_not_refused, one_cut_text}
+use Rattle.ld_run.specs.declared.refusal.Refusal.TheVariants.{Words, Stripe, NoSuchPosition, Segment, NotInSequence, Test, Plan, Memory}
+use Rattle.ld_run.proofs.CutLemmas.{cut_memory, cut_not_refused, cut_refused, cut_text_not_refused, one_cut_text}
+use Rattle.ld_run.proofs.PlanLemmas.{memory_not_refused, plan_not_refused}
+use Rattle.ld_options.proofs.ScenarioLemmas.{apart}
+use Rattle.ld_options.specs.Document.{IsRefusal}
+use Rattle.ld_options.specs.declared.fault.OptionsFault.{OptionsFault}
+use Rattle.ld_options.specs.declared.fault.OptionsFault.TheVariants as options
+use Rattle.ld_plan.specs.PlanView.{PlanView}
+use Rattle.ld_words.specs.RateTest.{rate_test}
 use Rattle.ld_run.proofs.SayingLemmas.{said_front, untouched}
 use Rattle.ld_run.proofs.StripeLemmas.{one_weights_text, weights_text_not_refused}
 
 -- ---- requests
 
 -- a request that has an answer isn't refused
-accepted_not_refused : (test : RateTest) (limit : ℕ) (r : Refusal) → plan.IsAccepted test limit → IsRehearsalRefusal test limit r → ⊥
-accepted_not_refused test limit (Plan f) accepted refused = accepted_unrefused test limit f accepted refused
-accepted_not_refused test limit (Words place) accepted refused = refused
-accepted_not_refused test limit (Stripe f) accepted refused = refused
-accepted_not_refused test limit (NoSuchPosition p) accepted refused = refused
-accepted_not_refused test limit (Segment f) accepted refused = refused
-accepted_not_refused test limit NotInSequence accepted refused = refused
-accepted_not_refused test limit Memory accepted refused = refused
+rehearsal_not_refused : (test : List ℕ) (limit : ℕ) (seen : PlanView) (r : Refusal) → IsWholePlan test limit seen → IsRehearsalRefusal test limit r → ⊥
+rehearsal_not_refused test limit seen (Segment f) has refused = cut_not_refused None None _ _ has.points f has.cut refused
+rehearsal_not_refused test limit seen (Test f) has refused = apart test has.options f has.options_are refused
+rehearsal_not_refused test limit seen (Plan f) has refused = plan_not_refused test limit seen f has refused
+rehearsal_not_refused test limit seen (Words place) has refused = refused
+rehearsal_not_refused test limit seen (Stripe f) has refused = refused
+rehearsal_not_refused test limit seen (NoSuchPosition p) has refused = refused
+rehearsal_not_refused test limit seen NotInSequence has refused = refused
+rehearsal_not_refused test limit seen Memory has refused = refused
 
 request_not_refused : (request : requests.Words) (answer : Answer) (r : Refusal) → IsAnswerOf request answer → IsRefusalOf request r → ⊥
 request_not_refused (StripeWeights weights position count) answer r has refused = weights_text_not_refused weights position count has.0 r has.1 refused
 request_not_refused (StripeSegment count segment sequence) answer r has refused = cut_text_not_refused count segment sequence has.0 r has.1 refused
 request_not_refused (RehearseWords rate unit duration pre max iteration journal entries) answer r has refused =
-    accepted_not_refused (test_of rate unit duration pre max) (entry_limit entries) r has.accepted refused
+    rehearsal_not_refused (rate_test rate unit duration pre max) (entry_limit entries) has.seen r has.whole_plan refused
 
 -- one that writes no file has one answer
 request_answer : (request : requests.Words) (a b : Answer) → IsAnswerOf request a → IsAnswerOf request b → a.file ≡ None → a ≡ b
@@ -79,14 +84,27 @@ segment_status_is segment sequence (cuts.Gap at) refused = refl
 segment_status_is segment sequence cuts.FewPoints refused = refl
 segment_status_is segment sequence (cuts.PeriodTooLarge n) refused = refl
 segment_status_is segment sequence cuts.TooMany refused = refl
-segment_status_is segment sequence cuts.Memory refused = absurd (memory_not_refused segment sequence refused)
+segment_status_is segment sequence cuts.Memory refused = absurd (cut_memory segment sequence refused)
 
-plan_status_is : (test : RateTest) (limit : ℕ) (f : PlanFault) → plan.IsRefusal test limit f → plan_status f ≡ 5
-plan_status_is test limit (plans.Range field) refused = refl
-plan_status_is test limit (plans.MaxBelowPre field) refused = refl
+test_status_is : (test : List ℕ) (f : OptionsFault) → IsRefusal test f → test_status f ≡ 5
+test_status_is test options.NotJson refused = refl
+test_status_is test (options.Missing path) refused = refl
+test_status_is test (options.WrongKind path) refused = refl
+test_status_is test (options.Unknown path) refused = refl
+test_status_is test (options.BadName path) refused = refl
+test_status_is test (options.BadExecutor path) refused = refl
+test_status_is test (options.Range path) refused = refl
+test_status_is test (options.MaxBelowPre path) refused = refl
+test_status_is test (options.ScriptUnknown path) refused = refl
+test_status_is test (options.Number path fault) refused = refl
+test_status_is test options.Memory refused = absurd (memory_not_refused test refused)
+
+plan_status_is : (test : List ℕ) (limit : ℕ) (f : PlanFault) → RefusesWholePlan test limit f → plan_status f ≡ 5
+plan_status_is test limit plans.NotInSequence refused = refl
+plan_status_is test limit (plans.PeriodTooLarge period) refused = refl
 plan_status_is test limit (plans.TooManyArrivals scenario count) refused = refl
 plan_status_is test limit (plans.JournalTooSmall needed most) refused = refl
-plan_status_is test limit plans.Memory refused = absurd refused
+plan_status_is test limit plans.Memory refused = absurd refused.refused
 
 request_status : (request : requests.Words) (r : Refusal) → IsRefusalOf request r → status_of r ≡ 5
 request_status (StripeWeights weights position count) (Words place) refused = absurd refused
@@ -94,6 +112,7 @@ request_status (StripeWeights weights position count) (Stripe f) refused = strip
 request_status (StripeWeights weights position count) (NoSuchPosition p) refused = refl
 request_status (StripeWeights weights position count) (Segment f) refused = absurd refused
 request_status (StripeWeights weights position count) NotInSequence refused = absurd refused
+request_status (StripeWeights weights position count) (Test f) refused = absurd refused
 request_status (StripeWeights weights position count) (Plan f) refused = absurd refused
 request_status (StripeWeights weights position count) Memory refused = absurd refused
 request_status (StripeSegment count segment sequence) (Words place) refused = absurd refused
@@ -101,14 +120,18 @@ request_status (StripeSegment count segment sequence) (Stripe f) refused = absur
 request_status (StripeSegment count segment sequence) (NoSuchPosition p) refused = absurd refused
 request_status (StripeSegment count segment sequence) (Segment f) refused = segment_status_is segment sequence f refused
 request_status (StripeSegment count segment sequence) NotInSequence refused = refl
+request_status (StripeSegment count segment sequence) (Test f) refused = absurd refused
 request_status (StripeSegment count segment sequence) (Plan f) refused = absurd refused
 request_status (StripeSegment count segment sequence) Memory refused = absurd refused
 request_status (RehearseWords rate unit duration pre max iteration journal entries) (Plan f) refused =
-    plan_status_is (test_of rate unit duration pre max) (entry_limit entries) f refused
+    plan_status_is (rate_test rate unit duration pre max) (entry_limit entries) f refused
+request_status (RehearseWords rate unit duration pre max iteration journal entries) (Test f) refused =
+    test_status_is (rate_test rate unit duration pre max) f refused
 request_status (RehearseWords rate unit duration pre max iteration journal entries) (Words place) refused = absurd refused
 request_status (RehearseWords rate unit duration pre max iteration journal entries) (Stripe f) refused = absurd refused
 request_status (RehearseWords rate unit duration pre max iteration journal entries) (NoSuchPosition p) refused = absurd refused
-request_status (RehearseWords rate unit duration pre max iteration journal entries) (Segment f) refused = absurd refused
+request_status (RehearseWords rate unit duration pre max iteration journal entries) (Segment f) refused =
+    segment_status_is None None f (cut_refused None None f refused)
 request_status (RehearseWords rate unit duration pre max iteration journal entries) NotInSequence refused = absurd refused
 request_status (RehearseWords rate unit duration pre max iteration journal entries) Memory refused = absurd refused
 
@@ -127,6 +150,7 @@ refused_part ws (Stripe f) refused = inr refused
 refused_part ws (NoSuchPosition p) refused = inr refused
 refused_part ws (Segment f) refused = inr refused
 refused_part ws NotInSequence refused = inr refused
+refused_part ws (Test f) refused = inr refused
 refused_part ws (Plan f) refused = inr refused
 refused_part ws Memory refused = absurd refused
 
@@ -256,6 +280,7 @@ told_or_memory words (Stripe f) refused = inr (refused (λ e. cc))
 told_or_memory words (NoSuchPosition p) refused = inr (refused (λ e. cc))
 told_or_memory words (Segment f) refused = inr (refused (λ e. cc))
 told_or_memory words NotInSequence refused = inr (refused (λ e. cc))
+told_or_memory words (Test f) refused = inr (refused (λ e. cc))
 told_or_memory words (Plan f) refused = inr (refused (λ e. cc))
 told_or_memory words Memory refused = inl refl
 

@@ -22,27 +22,21 @@ use Rattle.ld_machine.specs.State.{busy_count, opening}
 use Rattle.ld_machine.proofs.KeepsRoomLemmas.{legal_room}
 use Rattle.ld_machine.proofs.ListLemmas.{both_true}
 use Rattle.ld_machine.proofs.NumberedLemmas.{steps_numbered}
-use Rattle.ld_plan.specs.PlanFault.{IsAccepted}
-use Rattle.ld_plan.specs.PlanView.{IsPlanOf, PlanView}
-use Rattle.ld_plan.specs.RateTest.{IsInRange, most_users}
-use Rattle.ld_plan.specs.declared.rate_test.RateTest.{RateTest}
+use Rattle.ld_plan.specs.PlanView.{PlanView}
 use Rattle.ld_rehearsal.specs.Stage.{full_reply}
 use Rattle.ld_rehearsal.specs.declared.full.FullJournal.{FullJournal}
 use Rattle.ld_summary.specs.Summary.{summary_text}
 use Rattle.ld_summary.specs.Summed.{AreSummed}
 use Rattle.ld_words.specs.RateTest.{duration_text, rate_test}
-use Rattle.ld_run.specs.Rehearsal.{entry_limit, header_of, IsRehearsalAnswer}
+use Rattle.ld_run.specs.Rehearsal.{entry_limit, header_of, IsRehearsalAnswer, IsWholePlan}
 use Rattle.ld_run.specs.declared.answer.Answer.{Answer}
 use Rattle.ld_run.specs.declared.answer.NamedFile.{NamedFile}
 
 -- ---- the test's text
 
--- numbers within a test's ranges have at most 16 digits
-digits : (n most : ℕ) → n ≤ most → most < 10 ^ 16 → length (decimal n) ≤ 16
-digits n most within few = length-decimal-le 16 n (omega arith) (omega arith) (omega arith)
-
-above : (n most : ℕ) → ((most < n) → ⊥) → n ≤ most
-above n most not = grind (arith, common_steps, not)
+-- numbers below 2^64 have at most 20 digits
+digits : (n : ℕ) → n < 2 ^ 64 → length (decimal n) ≤ 20
+digits n below = length-decimal-le 20 n (omega arith) (omega arith) (omega arith)
 
 longer : (front back : List ℕ) (m n : ℕ) → length front ≤ m → length back ≤ n → length (front ++ back) ≤ m + n
 longer front back m n one two = let sum : length (front ++ back) ≡ length front + length back = length-append front back in omega arith
@@ -51,33 +45,33 @@ longer front back m n one two = let sum : length (front ++ back) ≡ length fron
 abbrev test_front : List ℕ
 test_front = codes "{\"options\":{\"scenarios\":{\"main\":{\"executor\":\"constant-arrival-rate\"" ++ codes ",\"rate\":"
 
-test_short : (test : RateTest) → IsInRange test → length (rate_test test.rate test.unit test.duration test.pre test.max) ≤ 1048576
-test_short test ranges =
-    let rate = digits test.rate _ (above test.rate _ (λ more. ranges.timed.0 (inr more))) (omega arith) in
-    let unit = digits test.unit _ (above test.unit _ (λ more. ranges.timed.1 (inr more))) (omega arith) in
-    let duration = digits test.duration _ (above test.duration _ (λ more. ranges.timed.2 (inr more))) (omega arith) in
-    let pre = digits test.pre most_users (above test.pre most_users ranges.pre) (omega arith) in
-    let max = digits test.max most_users (above test.max most_users (λ more. ranges.max (inr more))) (omega arith) in
-    let span : (n : ℕ) → length (decimal n) ≤ 16 → length (duration_text n) ≤ 18 = λ n short. longer (decimal n) (codes "ns") 16 2 short (omega arith) in
-    let one = test_front ++ decimal test.rate in
-    let to_one = longer test_front (decimal test.rate) 200 16 (omega arith) rate in
+pub test_short : (r u d p m : ℕ) → r < 2 ^ 64 → u < 2 ^ 64 → d < 2 ^ 64 → p < 2 ^ 64 → m < 2 ^ 64 → length (rate_test r u d p m) ≤ 1048576
+test_short r u d p m r_fits u_fits d_fits p_fits m_fits =
+    let rate = digits r r_fits in
+    let unit = digits u u_fits in
+    let duration = digits d d_fits in
+    let pre = digits p p_fits in
+    let max = digits m m_fits in
+    let span : (n : ℕ) → length (decimal n) ≤ 20 → length (duration_text n) ≤ 22 = λ n short. longer (decimal n) (codes "ns") 20 2 short (omega arith) in
+    let one = test_front ++ decimal r in
+    let to_one = longer test_front (decimal r) 200 20 (omega arith) rate in
     let two = one ++ codes ",\"timeUnit\":\"" in
-    let to_two = longer one (codes ",\"timeUnit\":\"") 216 100 to_one (omega arith) in
-    let three = two ++ duration_text test.unit in
-    let to_three = longer two (duration_text test.unit) 316 18 to_two (span test.unit unit) in
+    let to_two = longer one (codes ",\"timeUnit\":\"") 220 100 to_one (omega arith) in
+    let three = two ++ duration_text u in
+    let to_three = longer two (duration_text u) 320 22 to_two (span u unit) in
     let four = three ++ codes "\",\"duration\":\"" in
-    let to_four = longer three (codes "\",\"duration\":\"") 334 100 to_three (omega arith) in
-    let five = four ++ duration_text test.duration in
-    let to_five = longer four (duration_text test.duration) 434 18 to_four (span test.duration duration) in
+    let to_four = longer three (codes "\",\"duration\":\"") 342 100 to_three (omega arith) in
+    let five = four ++ duration_text d in
+    let to_five = longer four (duration_text d) 442 22 to_four (span d duration) in
     let six = five ++ codes "\",\"preAllocatedVUs\":" in
-    let to_six = longer five (codes "\",\"preAllocatedVUs\":") 452 100 to_five (omega arith) in
-    let seven = six ++ decimal test.pre in
-    let to_seven = longer six (decimal test.pre) 552 16 to_six pre in
+    let to_six = longer five (codes "\",\"preAllocatedVUs\":") 464 100 to_five (omega arith) in
+    let seven = six ++ decimal p in
+    let to_seven = longer six (decimal p) 564 20 to_six pre in
     let eight = seven ++ codes ",\"maxVUs\":" in
-    let to_eight = longer seven (codes ",\"maxVUs\":") 568 100 to_seven (omega arith) in
-    let nine = eight ++ decimal test.max in
-    let to_nine = longer eight (decimal test.max) 668 16 to_eight max in
-    let whole = longer nine (codes "}}},\"scripts\":{\"default\":[]}}") 684 100 to_nine (omega arith) in
+    let to_eight = longer seven (codes ",\"maxVUs\":") 584 100 to_seven (omega arith) in
+    let nine = eight ++ decimal m in
+    let to_nine = longer eight (decimal m) 684 20 to_eight max in
+    let whole = longer nine (codes "}}},\"scripts\":{\"default\":[]}}") 704 100 to_nine (omega arith) in
     omega (arith, whole)
 
 -- ---- samples
@@ -108,14 +102,14 @@ no_samples (x ∷ rest) all =
 
 -- ---- the journal
 
-pub writable : (test : RateTest) (limit iteration : ℕ) (seen : PlanView) (history : List Entry) → IsPlanOf test limit seen → IsAccepted test limit → 10 ≤ limit → limit ≤ 1000000 →
+pub writable : (test : List ℕ) (limit iteration : ℕ) (seen : PlanView) (history : List Entry) → IsWholePlan test limit seen → length test ≤ 1048576 → 10 ≤ limit → limit ≤ 1000000 →
     IsRehearsed seen.plan iteration history → IsWritable (header_of test limit) history
-writable test limit iteration seen history is accepted least most rehearsed =
+writable test limit iteration seen history is short least most rehearsed =
     let room : length history + busy_count (state_after seen.plan history) ≤ seen.plan.entry_limit = legal_room seen.plan history rehearsed.legal in
-    let same : seen.plan.entry_limit ≡ limit = is.entry_limit in
+    let same : seen.plan.entry_limit ≡ limit = is.is_plan.entry_limit in
     let none : length (flat_map (λ (entry : Entry). samples_of entry.act) history) ≡ 0 = ap (λ xs. length xs) (no_samples history rehearsed.entries) in
     record {
-      test = test_short test accepted.in_range;
+      test = short;
       segment = record { some = omega arith; bytes = search rules };
       sequence = record { some = omega arith; bytes = search rules };
       least = least;
@@ -156,18 +150,17 @@ named : (called journal written text : List ℕ) → called ≡ journal → writ
 named called journal written text name bytes = rw (name, bytes) refl
 
 -- all that was rehearsed and written is the answer
-pub answered : (test : RateTest) (entries : Option ℕ) (limit iteration : ℕ) (journal called : List ℕ) (seen played : PlanView) (history : HistoryView) (lacked : Option FullJournal)
-    (written summary : List ℕ) → limit ≡ entry_limit entries → played ≡ seen → IsPlanOf test limit seen → IsAccepted test limit → IsRehearsed seen.plan iteration history.entries →
+pub answered : (test : List ℕ) (entries : Option ℕ) (limit iteration : ℕ) (journal called : List ℕ) (seen played : PlanView) (history : HistoryView) (lacked : Option FullJournal)
+    (written summary : List ℕ) → limit ≡ entry_limit entries → played ≡ seen → IsWholePlan test limit seen → IsRehearsed seen.plan iteration history.entries →
     FirstRefusal seen.plan history.entries (option_map full_reply lacked) → (lacked ≡ None → IsSettled seen.plan history.entries) → (lacked ≡ None → IsTrue (nothing_late history.entries)) →
     called ≡ journal → written ≡ journal_text (header_of test limit) history.entries → summary ≡ summary_text (played ∷ []) (history ∷ []) →
     IsRehearsalAnswer test (entry_limit entries) iteration journal (record { file = Some (record { name = called; bytes = written }); text = summary; full = lacked })
-answered test entries limit iteration journal called seen played history lacked written summary most same is accepted rehearsed first settled in_time name bytes text =
+answered test entries limit iteration journal called seen played history lacked written summary most same is rehearsed first settled in_time name bytes text =
     let answer : Answer = record { file = Some (record { name = called; bytes = written }); text = summary; full = lacked } in
     subst (λ (n : ℕ). IsRehearsalAnswer test n iteration journal answer) most
     (record {
       seen = seen;
-      is_plan = is;
-      accepted = accepted;
+      whole_plan = is;
       history = history;
       rehearsed = rehearsed;
       first = first;

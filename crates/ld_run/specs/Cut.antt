@@ -11,7 +11,7 @@ use Rattle.ld_segment.specs.declared.fault.SegmentFault.{SegmentFault}
 use Rattle.ld_stripe.specs.Striping.{Striping, IsStripingOf}
 use Rattle.ld_run.specs.Indices.{numbers_line, owned_below}
 use Rattle.ld_run.specs.declared.refusal.Refusal.{Refusal}
-use Rattle.ld_run.specs.declared.refusal.Refusal.TheVariants.{Words, Stripe, NoSuchPosition, Segment, NotInSequence, Plan, Memory}
+use Rattle.ld_run.specs.declared.refusal.Refusal.TheVariants.{Words, Stripe, NoSuchPosition, Segment, NotInSequence, Test, Plan, Memory}
 
 -- a missing segment is the whole test
 abbrev pub segment_word : Option (List ℕ) → List ℕ
@@ -75,6 +75,7 @@ IsPartRefusal from to points (Segment f) =
 IsPartRefusal from to points (Words place) = ⊥
 IsPartRefusal from to points (Stripe f) = ⊥
 IsPartRefusal from to points (NoSuchPosition p) = ⊥
+IsPartRefusal from to points (Test f) = ⊥
 IsPartRefusal from to points (Plan f) = ⊥
 IsPartRefusal from to points Memory = ⊥
 
@@ -92,6 +93,10 @@ RefusesPart segment sequence r =
     (from : Frac) × (to : Frac) × (points : List Frac)
     × IsCut segment sequence from to points × IsPartRefusal from to points r
 
+-- it is refused so before it is cut: the segment, and then the sequence
+abbrev pub RefusesCut : Option (List ℕ) → Option (List ℕ) → SegmentFault → Type 0
+RefusesCut segment sequence f = IsSegmentRefusal (segment_word segment) f ⊎ (SegmentAccepted segment × IsGivenRefusal sequence f)
+
 abbrev pub IsCutRefusal : Option (List ℕ) → Option (List ℕ) → Refusal → Type 0
 IsCutRefusal segment sequence (Segment f) =
     IsSegmentRefusal (segment_word segment) f
@@ -100,5 +105,6 @@ IsCutRefusal segment sequence NotInSequence = RefusesPart segment sequence NotIn
 IsCutRefusal segment sequence (Words place) = ⊥
 IsCutRefusal segment sequence (Stripe f) = ⊥
 IsCutRefusal segment sequence (NoSuchPosition p) = ⊥
+IsCutRefusal segment sequence (Test f) = ⊥
 IsCutRefusal segment sequence (Plan f) = ⊥
 IsCutRefusal segment sequence Memory = ⊥

@@ -1,4 +1,6 @@
 -- Faults of the crates below as refusals of the words. Want of memory stands alone.
+use Rattle.ld_options.specs.declared.fault.OptionsFault.{OptionsFault}
+use Rattle.ld_options.specs.declared.fault.OptionsFault.TheVariants as options
 use Rattle.ld_plan.specs.declared.fault.PlanFault.{PlanFault}
 use Rattle.ld_plan.specs.declared.fault.PlanFault.TheVariants as plans
 use Rattle.ld_segment.specs.declared.fault.SegmentFault.{SegmentFault}
@@ -8,14 +10,27 @@ use Rattle.ld_stripe.specs.declared.fault.StripeFault.TheVariants as stripes
 use Rattle.ld_words.specs.declared.fault.WordsFault.{WordsFault}
 use Rattle.ld_words.specs.declared.fault.WordsFault.TheVariants as words
 use Rattle.ld_run.specs.declared.refusal.Refusal.{Refusal}
-use Rattle.ld_run.specs.declared.refusal.Refusal.TheVariants.{Words, Stripe, Segment, Plan, Memory}
+use Rattle.ld_run.specs.declared.refusal.Refusal.TheVariants.{Words, Stripe, Segment, Test, Plan, Memory}
 
 abbrev pub of_plan : PlanFault → Refusal
-of_plan (plans.Range field) = Plan (plans.Range field)
-of_plan (plans.MaxBelowPre field) = Plan (plans.MaxBelowPre field)
+of_plan plans.NotInSequence = Plan plans.NotInSequence
+of_plan (plans.PeriodTooLarge period) = Plan (plans.PeriodTooLarge period)
 of_plan (plans.TooManyArrivals scenario count) = Plan (plans.TooManyArrivals scenario count)
 of_plan (plans.JournalTooSmall needed limit) = Plan (plans.JournalTooSmall needed limit)
 of_plan plans.Memory = Memory
+
+abbrev pub of_options : OptionsFault → Refusal
+of_options options.NotJson = Test options.NotJson
+of_options (options.Missing path) = Test (options.Missing path)
+of_options (options.WrongKind path) = Test (options.WrongKind path)
+of_options (options.Unknown path) = Test (options.Unknown path)
+of_options (options.BadName path) = Test (options.BadName path)
+of_options (options.BadExecutor path) = Test (options.BadExecutor path)
+of_options (options.Range path) = Test (options.Range path)
+of_options (options.MaxBelowPre path) = Test (options.MaxBelowPre path)
+of_options (options.ScriptUnknown path) = Test (options.ScriptUnknown path)
+of_options (options.Number path fault) = Test (options.Number path fault)
+of_options options.Memory = Memory
 
 abbrev pub of_words : WordsFault → Refusal
 of_words (words.Refused place) = Words place

@@ -2,15 +2,15 @@
 use Rattle.std.specs.Prelude.{◌≡◌, ◌∷◌, ◌++◌, [], ℕ, List, codes, decimal}
 use Rattle.ld_num.specs.declared.fault.NumFault.{NumFault}
 use Rattle.ld_num.specs.declared.fault.NumFault.TheVariants as numbers
-use Rattle.ld_plan.specs.Field.{path_of}
+use Rattle.ld_options.specs.declared.fault.OptionsFault.{OptionsFault}
+use Rattle.ld_options.specs.declared.fault.OptionsFault.TheVariants as options
 use Rattle.ld_plan.specs.declared.fault.PlanFault.{PlanFault}
 use Rattle.ld_plan.specs.declared.fault.PlanFault.TheVariants as plans
-use Rattle.ld_plan.specs.declared.field.Field.{Field}
-use Rattle.ld_plan.specs.declared.rate_test.RateTest.{RateTest}
 use Rattle.ld_segment.specs.declared.fault.SegmentFault.{SegmentFault}
 use Rattle.ld_segment.specs.declared.fault.SegmentFault.TheVariants as cuts
 use Rattle.ld_stripe.specs.declared.fault.StripeFault.{StripeFault}
 use Rattle.ld_stripe.specs.declared.fault.StripeFault.TheVariants as stripes
+use Rattle.ld_words.specs.RateTest.{rate_test}
 use Rattle.ld_words.specs.Words as words
 use Rattle.ld_words.specs.declared.fault.WordsFault.TheVariants.{Refused}
 use Rattle.ld_words.specs.declared.words.Words as requests
@@ -21,11 +21,7 @@ use Rattle.ld_run.specs.Rehearsal.{entry_limit, IsRehearsalAnswer, IsRehearsalRe
 use Rattle.ld_run.specs.Stripe.{IsWeightsRefusal, IsWeightsText}
 use Rattle.ld_run.specs.declared.answer.Answer.{Answer}
 use Rattle.ld_run.specs.declared.refusal.Refusal.{Refusal}
-use Rattle.ld_run.specs.declared.refusal.Refusal.TheVariants.{Words, Stripe, NoSuchPosition, Segment, NotInSequence, Plan, Memory}
-
--- the test of these numbers
-abbrev pub test_of : ℕ → ℕ → ℕ → ℕ → ℕ → RateTest
-test_of r u d p m = record { rate = r; unit = u; duration = d; pre = p; max = m }
+use Rattle.ld_run.specs.declared.refusal.Refusal.TheVariants.{Words, Stripe, NoSuchPosition, Segment, NotInSequence, Test, Plan, Memory}
 
 -- the answer is a text alone, of which this holds
 abbrev pub IsTextAlone : (List ℕ → Type 0) → Answer → Type 0
@@ -36,14 +32,14 @@ abbrev pub IsAnswerOf : requests.Words → Answer → Type 0
 IsAnswerOf (StripeWeights weights position count) answer = IsTextAlone (IsWeightsText weights position count) answer
 IsAnswerOf (StripeSegment count segment sequence) answer = IsTextAlone (IsCutText count segment sequence) answer
 IsAnswerOf (RehearseWords rate unit duration pre max iteration journal entries) answer =
-    IsRehearsalAnswer (test_of rate unit duration pre max) (entry_limit entries) iteration journal answer
+    IsRehearsalAnswer (rate_test rate unit duration pre max) (entry_limit entries) iteration journal answer
 
 -- a request is refused so
 abbrev pub IsRefusalOf : requests.Words → Refusal → Type 0
 IsRefusalOf (StripeWeights weights position count) r = IsWeightsRefusal weights position r
 IsRefusalOf (StripeSegment count segment sequence) r = IsCutRefusal segment sequence r
 IsRefusalOf (RehearseWords rate unit duration pre max iteration journal entries) r =
-    IsRehearsalRefusal (test_of rate unit duration pre max) (entry_limit entries) r
+    IsRehearsalRefusal (rate_test rate unit duration pre max) (entry_limit entries) r
 
 -- the answer to the words
 abbrev pub HasAnswer : List (List ℕ) → Answer → Type 0
@@ -61,6 +57,7 @@ IsRefused ws (Stripe f) = NamesRefused ws (Stripe f)
 IsRefused ws (NoSuchPosition p) = NamesRefused ws (NoSuchPosition p)
 IsRefused ws (Segment f) = NamesRefused ws (Segment f)
 IsRefused ws NotInSequence = NamesRefused ws NotInSequence
+IsRefused ws (Test f) = NamesRefused ws (Test f)
 IsRefused ws (Plan f) = NamesRefused ws (Plan f)
 IsRefused ws Memory = ⊥
 
@@ -85,10 +82,23 @@ segment_status cuts.FewPoints = 5
 segment_status (cuts.PeriodTooLarge period) = 5
 segment_status cuts.TooMany = 5
 
+abbrev pub test_status : OptionsFault → ℕ
+test_status options.Memory = 9
+test_status options.NotJson = 5
+test_status (options.Missing path) = 5
+test_status (options.WrongKind path) = 5
+test_status (options.Unknown path) = 5
+test_status (options.BadName path) = 5
+test_status (options.BadExecutor path) = 5
+test_status (options.Range path) = 5
+test_status (options.MaxBelowPre path) = 5
+test_status (options.ScriptUnknown path) = 5
+test_status (options.Number path fault) = 5
+
 abbrev pub plan_status : PlanFault → ℕ
 plan_status plans.Memory = 9
-plan_status (plans.Range field) = 5
-plan_status (plans.MaxBelowPre field) = 5
+plan_status plans.NotInSequence = 5
+plan_status (plans.PeriodTooLarge period) = 5
 plan_status (plans.TooManyArrivals scenario count) = 5
 plan_status (plans.JournalTooSmall needed limit) = 5
 
@@ -98,6 +108,7 @@ status_of (Stripe f) = stripe_status f
 status_of (NoSuchPosition position) = 5
 status_of (Segment f) = segment_status f
 status_of NotInSequence = 5
+status_of (Test f) = test_status f
 status_of (Plan f) = plan_status f
 status_of Memory = 9
 
@@ -140,17 +151,31 @@ segment_line cuts.TooMany = codes "error 17 TooMany\n"
 segment_line cuts.Memory = memory_line
 
 -- a line of a text and a path behind it
-abbrev pub line_at : List ℕ → Field → List ℕ
-line_at text field = text ++ path_of field ++ 10 ∷ []
+abbrev pub line_at : List ℕ → List ℕ → List ℕ
+line_at text path = text ++ path ++ 10 ∷ []
 
 -- a line of a text and two numbers behind it
 abbrev pub line_with_two : List ℕ → ℕ → ℕ → List ℕ
 line_with_two text one two = text ++ decimal one ++ 32 ∷ decimal two ++ 10 ∷ []
 
 -- the line that says a fault of a test
+abbrev pub test_line : OptionsFault → List ℕ
+test_line options.NotJson = codes "error 40 NotJson\n"
+test_line (options.Missing path) = line_at (codes "error 41 Missing ") path
+test_line (options.WrongKind path) = line_at (codes "error 42 WrongKind ") path
+test_line (options.Unknown path) = line_at (codes "error 43 Unknown ") path
+test_line (options.BadName path) = line_at (codes "error 60 BadName ") path
+test_line (options.BadExecutor path) = line_at (codes "error 61 BadExecutor ") path
+test_line (options.Range path) = line_at (codes "error 62 Range ") path
+test_line (options.MaxBelowPre path) = line_at (codes "error 64 MaxBelowPre ") path
+test_line (options.ScriptUnknown path) = line_at (codes "error 65 ScriptUnknown ") path
+test_line (options.Number path fault) = line_at (number_name fault) path
+test_line options.Memory = memory_line
+
+-- the line that says a fault of a plan
 abbrev pub plan_line : PlanFault → List ℕ
-plan_line (plans.Range field) = line_at (codes "error 62 Range ") field
-plan_line (plans.MaxBelowPre field) = line_at (codes "error 64 MaxBelowPre ") field
+plan_line plans.NotInSequence = codes "error 15 NotInSequence\n"
+plan_line (plans.PeriodTooLarge period) = line_with (codes "error 16 PeriodTooLarge ") period
 plan_line (plans.TooManyArrivals scenario count) = line_with_two (codes "error 31 TooManyArrivals ") scenario count
 plan_line (plans.JournalTooSmall needed limit) = line_with_two (codes "error 81 JournalTooSmall ") needed limit
 plan_line plans.Memory = memory_line
@@ -162,5 +187,6 @@ line_of (Stripe f) = stripe_line f
 line_of (NoSuchPosition position) = line_with (codes "error 22 NoSuchPosition ") position
 line_of (Segment f) = segment_line f
 line_of NotInSequence = codes "error 15 NotInSequence\n"
+line_of (Test f) = test_line f
 line_of (Plan f) = plan_line f
 line_of Memory = memory_line

@@ -1,5 +1,6 @@
 // The commands that never wait.
-ghost use Rattle.std.specs.Prelude.{◌≡◌, ◌≢◌, map, string_bytes, IfSome, MatchResult};
+ghost use Rattle.std.specs.Prelude.{◌≡◌, ◌≢◌, ◌≤◌, length, map, string_bytes, IfSome, MatchResult};
+ghost use Rattle.ld_words.specs.RateTest.{rate_test};
 ghost use Rattle.std.specs.Str.{IsUtf8};
 ghost use Rattle.ld_run.specs.Answer.{HasUtf8Name};
 ghost use Rattle.ld_run.specs.DeskRun.{IsDeskRun};
@@ -17,9 +18,8 @@ use crate::stripe::{cut_text, weights_text};
 use crate::text::full_line;
 use ld_base::Text;
 use ld_outside::{Shelf, ShelfFault, Sink, SinkFault, put_all, put_file};
-use ld_plan::RateTest;
 use ld_rehearsal::FullJournal;
-use ld_words::{Words, read_words};
+use ld_words::{Words, rate_test_text, read_words};
 use std::alloc::Global;
 use std::str;
 
@@ -110,16 +110,28 @@ fn answer_for(alloc: Global, request: &Words) -> Result<Answer, Refusal>
             journal,
             entries,
         } => {
-            let test = RateTest {
-                rate: *rate,
-                unit: *unit,
-                duration: *duration,
-                pre: *pre,
-                max: *max,
-            };
-            rehearsal_answer(alloc, &test, *entries, *iteration, journal)
+            let test = rate_test(alloc, *rate, *unit, *duration, *pre, *max)?;
+            rehearsal_answer(alloc, test.as_slice(), *entries, *iteration, journal)
         }
     }
+}
+
+// The text of a test of one scenario at a constant rate of arrivals.
+fn rate_test(
+    alloc: Global,
+    rate: u32,
+    unit: u64,
+    duration: u64,
+    pre: u32,
+    max: u32,
+) -> Result<Vec<u8>, Refusal>
+    ensures { MatchResult result
+        (λ text. (text.items ≡ rate_test rate unit duration pre max) × (length text.items ≤ 1048576))
+        (λ refusal. refusal ≡ Refusal.Memory) }
+{
+    let mut text = Vec::new(alloc);
+    rate_test_text(rate, unit, duration, pre, max, &mut text)?;
+    Ok(text)
 }
 
 // Writes the answer: its file, its text on `out`, and a line on `err` where that fails or a journal had no

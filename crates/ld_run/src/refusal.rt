@@ -1,6 +1,7 @@
-use crate::text::{line_with, plan_line, segment_line, stripe_line};
+use crate::text::{line_with, plan_line, segment_line, stripe_line, test_line};
 use ld_base::BaseFault;
 use ld_journal::JournalFault;
+use ld_options::OptionsFault;
 use ld_plan::PlanFault;
 use ld_rehearsal::RehearsalFault;
 use ld_segment::SegmentFault;
@@ -11,7 +12,7 @@ use std::alloc::{AllocError, Global};
 use thiserror::Error;
 
 /// Why the words of a command line have no text.
-#[derive(Debug, Drop, PartialEq, Eq, Error)]
+#[derive(Debug, Drop, Error)]
 pub enum Refusal {
     /// The word at this place, counted from 0, can't stand there, or the words end before it.
     #[error("the words are refused at place {0}")]
@@ -28,6 +29,9 @@ pub enum Refusal {
     /// The sequence has no segment that is equal to this one.
     #[error("the segment isn't in the sequence")]
     NotInSequence,
+    /// The test's document is refused.
+    #[error(transparent)]
+    Test(OptionsFault),
     /// The test has no plan.
     #[error(transparent)]
     Plan(PlanFault),
@@ -48,12 +52,14 @@ impl Refusal {
             Refusal::Words(_) => 2,
             Refusal::Stripe(StripeFault::Memory)
             | Refusal::Segment(SegmentFault::Memory)
+            | Refusal::Test(OptionsFault::Memory)
             | Refusal::Plan(PlanFault::Memory)
             | Refusal::Memory => 9,
             Refusal::Stripe(_)
             | Refusal::NoSuchPosition(_)
             | Refusal::Segment(_)
             | Refusal::NotInSequence
+            | Refusal::Test(_)
             | Refusal::Plan(_) => 5,
         }
     }
@@ -70,6 +76,7 @@ impl Refusal {
             }
             Refusal::Segment(fault) => segment_line(alloc, fault),
             Refusal::NotInSequence => Ok(Vec::from_slice(alloc, b"error 15 NotInSequence\n")?),
+            Refusal::Test(fault) => test_line(alloc, fault),
             Refusal::Plan(fault) => plan_line(alloc, fault),
             Refusal::Memory => Ok(Vec::from_slice(alloc, b"error memory\n")?),
         }
@@ -170,6 +177,20 @@ impl From<SummaryFault> for Refusal {
 
     fn from(_fault: SummaryFault) -> Refusal {
         Refusal::Memory
+    }
+}
+
+impl From<OptionsFault> for Refusal {
+    ghost use Rattle.ld_run.specs.Faults.{of_options};
+    ghost use Rattle.std.specs.Prelude.{◌≡◌};
+
+    ghost from_gives = { λ fault refusal. refusal ≡ of_options fault };
+
+    fn from(fault: OptionsFault) -> Refusal {
+        match fault {
+            OptionsFault::Memory => Refusal::Memory,
+            fault => Refusal::Test(fault),
+        }
     }
 }
 

@@ -1,35 +1,37 @@
 // The answer of `rehearse`.
-ghost use Rattle.std.specs.Prelude.{◌≡◌, ◌≢◌, ◌≤◌, ◌∷◌, [], MatchResult};
+ghost use Rattle.std.specs.Prelude.{◌≡◌, ◌≢◌, ◌≤◌, ◌∷◌, [], MatchResult, length};
 ghost use Rattle.ld_journal.specs.Journal.{journal_text};
 ghost use Rattle.ld_journal.specs.Writable.{IsWritable};
 ghost use Rattle.ld_machine.specs.History.{IsLegal};
 ghost use Rattle.ld_summary.specs.Summary.{summary_text};
-ghost use Rattle.ld_run.specs.Rehearsal.{entry_limit, header_of, IsRehearsalAnswer, IsRehearsalRefusal};
+ghost use Rattle.ld_run.specs.Rehearsal.{entry_limit, header_of, IsRehearsalAnswer, IsRehearsalRefusal, IsWholePlan};
 ghost use Rattle.ld_run.specs.declared.refusal.Refusal.{Refusal};
 
 use crate::answer::{Answer, NamedFile};
 use crate::refusal::Refusal;
+use crate::stripe::read_cut;
 use ld_base::{Bytes, History, Text};
 use ld_journal::{Header, write};
-use ld_plan::{Plan, RateTest};
+use ld_options::Options;
+use ld_plan::Plan;
 use ld_rehearsal::{Rehearsed, rehearse};
 use ld_summary::summary_text;
-use ld_words::rate_test_text;
 use std::alloc::Global;
 use std::slice;
 
 /// How many entries a journal may have, where the words don't say it.
 const MOST_ENTRIES: u32 = 1_000_000;
 
-// The answer of a rehearsal of a test, with at most so many entries and with iterations of this length, in
-// nanoseconds. The journal has this name.
+// The answer of a rehearsal of the whole of a test, with at most so many entries and with iterations of this
+// length, in nanoseconds. The journal has this name.
 pub fn rehearsal_answer(
     alloc: Global,
-    test: &RateTest,
+    test: &[u8],
     entries: Option<u32>,
     iteration: u64,
     journal: &Text,
 ) -> Result<Answer, Refusal>
+    requires short { length test.now ≤ 1048576 }
     requires lasts { 1 ≤ iteration }
     requires least { 10 ≤ entry_limit entries }
     requires most { entry_limit entries ≤ 1000000 }
@@ -38,7 +40,7 @@ pub fn rehearsal_answer(
         (λ refusal. refusal ≢ Refusal.Memory → IsRehearsalRefusal test.now (entry_limit entries) refusal) }
 {
     let limit = entries.unwrap_or(MOST_ENTRIES);
-    let plan = Plan::of_rate_test(alloc, test, limit)?;
+    let plan = whole_plan(alloc, test, limit)?;
     let Rehearsed {
         plan,
         history,
@@ -52,6 +54,19 @@ pub fn rehearsal_answer(
         text,
         full,
     })
+}
+
+// The plan of the whole of a test, where a journal has so many entries.
+fn whole_plan(alloc: Global, test: &[u8], limit: u32) -> Result<Plan, Refusal>
+    requires least { 10 ≤ limit }
+    requires most { limit ≤ 1000000 }
+    ensures { MatchResult result
+        (IsWholePlan test.now limit)
+        (λ refusal. refusal ≢ Refusal.Memory → IsRehearsalRefusal test.now limit refusal) }
+{
+    let (segment, sequence) = read_cut(alloc, &None, &None)?;
+    let options = Options::read(alloc, test)?;
+    Ok(Plan::of(alloc, options, segment, sequence, limit)?)
 }
 
 // The summary of one history.
@@ -69,7 +84,7 @@ fn summary_of(alloc: Global, plan: &Plan, history: &History) -> Result<Text, Ref
 // The journal of a history of a test that is played whole.
 fn journal_bytes(
     alloc: Global,
-    test: &RateTest,
+    test: &[u8],
     limit: u32,
     history: History,
 ) -> Result<Bytes, Refusal>
@@ -86,22 +101,13 @@ fn journal_bytes(
 }
 
 // The header of the journal of a test that is played whole.
-fn whole_header(alloc: Global, test: &RateTest, limit: u32) -> Result<Header, Refusal>
+fn whole_header(alloc: Global, test: &[u8], limit: u32) -> Result<Header, Refusal>
     ensures { MatchResult result
         (λ header. header ≡ header_of test.now limit)
         (λ refusal. refusal ≡ Refusal.Memory) }
 {
-    let mut text = Vec::new(alloc);
-    rate_test_text(
-        test.rate,
-        test.unit,
-        test.duration,
-        test.pre,
-        test.max,
-        &mut text,
-    )?;
     Ok(Header {
-        test: Bytes::of(text),
+        test: Bytes::of(Vec::from_slice(alloc, test)?),
         segment: Text::of(Vec::from_slice(alloc, b"0:1")?),
         sequence: Text::of(Vec::from_slice(alloc, b"0,1")?),
         entries: limit,

@@ -5,7 +5,7 @@ ghost use Rattle.ld_segment.specs.Points.{IsFilled};
 ghost use Rattle.ld_segment.specs.Values.{segment_values, ArePoints};
 ghost use Rattle.ld_segment.specs.Weights.{greatest_period, HasWeights, IsPeriodRefusal};
 ghost use Rattle.ld_stripe.specs.Striping.{IsStripingOf};
-ghost use Rattle.ld_run.specs.Cut.{segment_word, AreGiven, IsCutRefusal, IsCutText, IsGivenRefusal, IsPartRefusal, IsPartText, SegmentAccepted, SequenceAccepted};
+ghost use Rattle.ld_run.specs.Cut.{segment_word, AreGiven, IsCut, IsCutRefusal, IsCutText, IsGivenRefusal, IsPartRefusal, IsPartText, RefusesCut, SegmentAccepted, SequenceAccepted};
 ghost use Rattle.ld_run.specs.Stripe.{IsWeightsRefusal, IsWeightsText};
 ghost use Rattle.ld_run.specs.declared.refusal.Refusal.{Refusal};
 ghost use Rattle.ld_segment.specs.declared.fault.SegmentFault.{SegmentFault};
@@ -49,10 +49,23 @@ pub fn cut_text(
         (λ text. IsCutText count segment.now sequence.now text.items)
         (λ refusal. refusal ≢ Refusal.Memory → IsCutRefusal segment.now sequence.now refusal) }
 {
+    let (part, whole) = read_cut(alloc, segment, sequence)?;
+    part_text(alloc, count, &part, &whole)
+}
+
+// The segment and the filled sequence that words cut a test into.
+pub fn read_cut(
+    alloc: Global,
+    segment: &Option<Text>,
+    sequence: &Option<Text>,
+) -> Result<(Segment, Sequence), SegmentFault>
+    ensures value { IfOk result (λ cut. IsCut segment.now sequence.now cut.0.from cut.0.to cut.1) }
+    ensures refused { IfErr result (λ f. f ≢ SegmentFault.Memory → RefusesCut segment.now sequence.now f) }
+{
     let part = read_segment(segment)?;
     let given = read_sequence(alloc, sequence)?;
     let whole = Sequence::fill(alloc, &part, given)?;
-    part_text(alloc, count, &part, &whole)
+    Ok((part, whole))
 }
 
 // The text of a segment of a filled sequence.

@@ -1,11 +1,13 @@
 // Lines of text.
 ghost use Rattle.std.specs.Prelude.{◌≡◌, IfOk};
 ghost use Rattle.ld_run.specs.Answer.{full_line, room_word};
-ghost use Rattle.ld_run.specs.Refusal.{line_at, line_with, line_with_two, number_name, plan_line, segment_line, stripe_line};
+ghost use Rattle.ld_run.specs.Refusal.{line_at, line_with, line_with_two, number_name, plan_line, segment_line, stripe_line, test_line};
 
 use ld_base::{BaseFault, Room, put_number};
+use ld_json::Path;
 use ld_num::NumFault;
-use ld_plan::{Field, PlanFault};
+use ld_options::OptionsFault;
+use ld_plan::PlanFault;
 use ld_rehearsal::FullJournal;
 use ld_segment::SegmentFault;
 use ld_stripe::StripeFault;
@@ -33,12 +35,12 @@ fn line_with_two(alloc: Global, text: &[u8], one: u64, two: u64) -> Result<Vec<u
     Ok(line)
 }
 
-// A line of a text and the path of a field behind it.
-fn line_at(alloc: Global, text: &[u8], field: Field) -> Result<Vec<u8>, BaseFault>
-    ensures { IfOk result (λ line. line.items ≡ line_at text.now field) }
+// A line of a text and a path behind it.
+fn line_at(alloc: Global, text: &[u8], path: &Path) -> Result<Vec<u8>, BaseFault>
+    ensures { IfOk result (λ line. line.items ≡ line_at text.now path.now) }
 {
     let mut line = Vec::from_slice(alloc, text)?;
-    line.extend_from_slice(field.path().as_bytes())?;
+    line.extend_from_slice(path.as_slice())?;
     line.extend_from_slice(b"\n")?;
     Ok(line)
 }
@@ -68,12 +70,31 @@ fn room_word(room: Room) -> &'static [u8]
 }
 
 // The line that says a fault of a test.
+pub fn test_line(alloc: Global, fault: &OptionsFault) -> Result<Vec<u8>, BaseFault>
+    ensures { IfOk result (λ line. line.items ≡ test_line fault.now) }
+{
+    match fault {
+        OptionsFault::NotJson => Ok(Vec::from_slice(alloc, b"error 40 NotJson\n")?),
+        OptionsFault::Missing(path) => line_at(alloc, b"error 41 Missing ", path),
+        OptionsFault::WrongKind(path) => line_at(alloc, b"error 42 WrongKind ", path),
+        OptionsFault::Unknown(path) => line_at(alloc, b"error 43 Unknown ", path),
+        OptionsFault::BadName(path) => line_at(alloc, b"error 60 BadName ", path),
+        OptionsFault::BadExecutor(path) => line_at(alloc, b"error 61 BadExecutor ", path),
+        OptionsFault::Range(path) => line_at(alloc, b"error 62 Range ", path),
+        OptionsFault::MaxBelowPre(path) => line_at(alloc, b"error 64 MaxBelowPre ", path),
+        OptionsFault::ScriptUnknown(path) => line_at(alloc, b"error 65 ScriptUnknown ", path),
+        OptionsFault::Number { path, fault } => line_at(alloc, number_name(fault), path),
+        OptionsFault::Memory => Ok(Vec::from_slice(alloc, b"error memory\n")?),
+    }
+}
+
+// The line that says a fault of a plan.
 pub fn plan_line(alloc: Global, fault: &PlanFault) -> Result<Vec<u8>, BaseFault>
     ensures { IfOk result (λ line. line.items ≡ plan_line fault.now) }
 {
     match fault {
-        PlanFault::Range(field) => line_at(alloc, b"error 62 Range ", *field),
-        PlanFault::MaxBelowPre(field) => line_at(alloc, b"error 64 MaxBelowPre ", *field),
+        PlanFault::NotInSequence => Ok(Vec::from_slice(alloc, b"error 15 NotInSequence\n")?),
+        PlanFault::PeriodTooLarge(period) => line_with(alloc, b"error 16 PeriodTooLarge ", *period),
         PlanFault::TooManyArrivals { scenario, count } => {
             line_with_two(
                 alloc,

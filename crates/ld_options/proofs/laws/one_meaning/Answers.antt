@@ -1,4 +1,5 @@
-use Rattle.ld_options.proofs.OneLemmas.{apart, one_options, one_refusal}
+use Rattle.ld_options.proofs.OneLemmas.{one_options, one_refusal}
+use Rattle.ld_options.proofs.ScenarioLemmas.{apart}
 use Rattle.ld_options.proofs.laws.one_meaning.Goals as goal
 
 pub returns-clause-options : goal.returns-clause-options
