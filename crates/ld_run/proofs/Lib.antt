@@ -1,3 +1,4 @@
+pub mod FaultLemmas
 pub mod CutLemmas
 pub mod DeskLemmas
 pub mod IndicesLemmas

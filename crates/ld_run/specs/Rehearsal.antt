@@ -1,5 +1,5 @@
 -- What `rehearse` answers, and why it is refused.
-use Rattle.std.specs.Prelude.{◌≡◌, ℕ, List, ◌∷◌, Option, None, Some, IsTrue, codes, option_map, unwrap_or}
+use Rattle.std.specs.Prelude.{◌≡◌, ℕ, List, [], ◌∷◌, Option, None, Some, IsTrue, codes, option_map, unwrap_or}
 use Rattle.ld_base.specs.History.{HistoryView}
 use Rattle.ld_journal.specs.Journal.{journal_text}
 use Rattle.ld_journal.specs.declared.header.Header.{Header}
@@ -11,7 +11,7 @@ use Rattle.ld_options.specs.declared.options.Options.{Options}
 use Rattle.ld_plan.specs.IsPlanOf.{IsPlanOf}
 use Rattle.ld_plan.specs.PlanFault as plans
 use Rattle.ld_plan.specs.PlanView.{PlanView}
-use Rattle.ld_segment.specs.declared.segment.Segment.{Segment}
+use Rattle.ld_segment.specs.declared.segment.Segment.{Segment as Part}
 use Rattle.ld_plan.specs.declared.fault.PlanFault.{PlanFault}
 use Rattle.ld_rehearsal.specs.Stage.{full_reply}
 use Rattle.ld_summary.specs.Summary.{summary_text}
@@ -40,7 +40,7 @@ header_of test limit =
 -- the plan of the whole of a test, under the options that its text says
 pub record IsWholePlan (test : List ℕ) (limit : ℕ) (seen : PlanView) : Type 0 where
   pub options : Options
-  pub segment : Segment
+  pub segment : Part
   pub points : List Frac
   pub options_are : AreOptions test options
   pub cut : IsCut None None segment.from segment.to points
@@ -50,7 +50,7 @@ pub record IsWholePlan (test : List ℕ) (limit : ℕ) (seen : PlanView) : Type 
 -- it is refused
 pub record RefusesWholePlan (test : List ℕ) (limit : ℕ) (f : PlanFault) : Type 0 where
   pub options : Options
-  pub segment : Segment
+  pub segment : Part
   pub points : List Frac
   pub options_are : AreOptions test options
   pub cut : IsCut None None segment.from segment.to points

@@ -1,19 +1,14 @@
-use Rattle.ld_run.specs.Cut.{IsCut}
-use Rattle.ld_run.proofs.CutLemmas.{cut_answer}
+-- What can't be cut is refused, and what is cut has its text.
+use Rattle.ld_run.specs.Cut.{IsCutRefusal}
+use Rattle.ld_run.proofs.CutLemmas.{cut_answer, cut_refused}
+use Rattle.ld_run.proofs.FaultLemmas.{handed_on, segment_fault}
 use Rattle.ld_run.proofs.stripe.cut_text.Goals as goal
 
+pub returns-in_err-part : goal.returns-in_err-part
+returns-in_err-part c =
+    handed_on _ _ _ _ c.from_residual.ensures
+    (segment_fault (IsCutRefusal c.args.segment.now c.args.sequence.now) c.in_err-part.field-0.0
+    (λ named. cut_refused c.args.segment.now c.args.sequence.now c.in_err-part.field-0.0 (c.in_err-part.ensures.refused named)))
+
 pub returns : goal.returns
-returns c =
-    let part = c.in_ok-part.part in
-    let cut : IsCut c.args.segment.now c.args.sequence.now part.from part.to c.in_ok-whole.whole = record {
-      segment_accepted = c.in_ok-part.ensures.accepted;
-      segment_is = c.in_ok-part.ensures.value;
-      sequence_accepted = c.in_ok-given.ensures.accepted;
-      given = c.in_ok-given.given;
-      given_are = c.in_ok-given.ensures.value;
-      points_are = c.in_ok-whole.ensures.value;
-      whole = c.in_ok-whole.ensures.whole;
-      sequence_is = c.in_ok-whole.ensures.sequence;
-    }
-    in
-    cut_answer _ _ _ _ _ _ cut c.part_text.result c.part_text.ensures
+returns c = cut_answer _ _ _ _ _ _ c.in_ok-part.ensures.value c.part_text.result c.part_text.ensures
