@@ -19,3 +19,6 @@ pub use fault::OptionsFault;
 pub use options::Options;
 pub use scenario::Scenario;
 pub use scenarios::Scenarios;
+
+#[cfg(test)]
+mod tests;
