@@ -21,3 +21,6 @@ pub use laws::one_meaning;
 pub use options::Options;
 pub use scenario::Scenario;
 pub use scenarios::Scenarios;
+
+#[cfg(test)]
+mod tests;
