@@ -14,3 +14,6 @@ pub use crate::machine::Core;
 pub use busy::Busy;
 pub use fault::CoreFault;
 pub use laws::every_run;
+
+#[cfg(test)]
+mod tests;

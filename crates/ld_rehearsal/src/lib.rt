@@ -11,3 +11,5 @@ pub use fault::RehearsalFault;
 pub use full::FullJournal;
 pub use play::{Rehearsed, rehearse};
 
+#[cfg(test)]
+mod tests;

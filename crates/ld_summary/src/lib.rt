@@ -11,3 +11,5 @@ mod text;
 pub use fault::SummaryFault;
 pub use text::summary_text;
 
+#[cfg(test)]
+mod tests;
