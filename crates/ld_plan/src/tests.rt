@@ -45,8 +45,7 @@ fn plan_of(
     segment: &[u8],
     sequence: &[u8],
     entries: u32,
-) -> Result<Result<Plan, PlanFault>, Fail>
-{
+) -> Result<Result<Plan, PlanFault>, Fail> {
     if !(10..=1_000_000).contains(&entries) {
         return Ok(Err(PlanFault::Memory));
     }
@@ -216,8 +215,7 @@ fn fault(
     test: &[u8],
     cut: (&[u8], &[u8]),
     entries: u32,
-) -> Result<Option<PlanFault>, Fail>
-{
+) -> Result<Option<PlanFault>, Fail> {
     Ok(plan_of(alloc, test, cut.0, cut.1, entries)?.err())
 }
 

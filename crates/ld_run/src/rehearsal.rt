@@ -82,12 +82,7 @@ fn summary_of(alloc: Global, plan: &Plan, history: &History) -> Result<Text, Ref
 }
 
 // The journal of a history of a test that is played whole.
-fn journal_bytes(
-    alloc: Global,
-    test: &[u8],
-    limit: u32,
-    history: History,
-) -> Result<Bytes, Refusal>
+fn journal_bytes(alloc: Global, test: &[u8], limit: u32, history: History) -> Result<Bytes, Refusal>
     requires { IsWritable (header_of test.now limit) history.entries }
     ensures { MatchResult result
         (λ bytes. bytes ≡ journal_text (header_of test.now limit) history.entries)

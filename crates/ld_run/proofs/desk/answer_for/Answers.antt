@@ -1,16 +1,17 @@
-use Rattle.std.proofs.Common.{rules, ◌≡◌, ◌≢◌, ◌≤◌, length, map, string_bytes, IfSome, MatchResult, ℕ, ◌+◌, ◌-◌, ◌*◌, ◌<◌, ◌/◌, ◌%◌, Bool, true, false, nat_eq, nat_lt, List, [], ◌∷◌, ◌++◌, slice_index_or, slice_set, bit_and, bit_or, Fits, w8, w32, w64, Bor, MutBor}
-use Rattle.ld_words.specs.RateTest.{rate_test}
-use Rattle.std.specs.Str.{IsUtf8}
-use Rattle.ld_run.specs.Answer.{HasUtf8Name}
-use Rattle.ld_run.specs.DeskRun.{IsDeskRun}
-use Rattle.ld_run.specs.Delivery.{IsDelivered, IsEndSaid, IsFiled}
-use Rattle.ld_run.specs.Refusal.{HasAnswer, IsAnswerOf, IsRefusalOf, IsRefused}
-use Rattle.ld_run.specs.Request.{IsAsked}
-use Rattle.ld_run.specs.Saying.{IsRefusalSaid, IsSaid}
-use Rattle.ld_run.specs.declared.answer.NamedFile.{NamedFile}
-use Rattle.ld_run.specs.declared.refusal.Refusal.{Refusal}
+-- A rehearsal by options is one of the test that they stand for.
+use Rattle.std.proofs.Common.{◌≢◌, ◌∙◌, List, ℕ, subst, sym}
+use Rattle.std.specs.Prelude.{MatchResult}
+use Rattle.ld_run.specs.Refusal.{IsAnswerOf, IsRefusalOf}
+use Rattle.ld_run.specs.Rehearsal.{entry_limit, IsRehearsalAnswer, IsRehearsalRefusal}
+use Rattle.ld_run.specs.declared.refusal.Refusal.TheVariants.{Memory}
+use Rattle.ld_words.specs.declared.words.Words as requests
 use Rattle.ld_run.proofs.desk.answer_for.Goals as goal
 
--- src/desk.rt:86:1
 pub returns-in_ok-test-in-RehearseWords : goal.returns-in_ok-test-in-RehearseWords
-returns-in_ok-test-in-RehearseWords c = ?
+returns-in_ok-test-in-RehearseWords c =
+    let words = c.in-RehearseWords in
+    let same = c.as_slice-in-RehearseWords.ensures.value ∙ c.in_ok-test-in-RehearseWords.ensures.0 in
+    subst (λ (request : requests.Words). MatchResult c.rehearsal_answer.result (IsAnswerOf request) (λ r. r ≢ Memory → IsRefusalOf request r)) (sym words.is)
+    (subst
+    (λ (test : List ℕ). MatchResult c.rehearsal_answer.result (IsRehearsalAnswer test (entry_limit words.entries) words.iteration words.journal) (λ r. r ≢ Memory → IsRehearsalRefusal test (entry_limit words.entries) r))
+    same c.rehearsal_answer.ensures)

@@ -1,4 +1,5 @@
-use Rattle.std.proofs.Common.{◌∙◌}
+use Rattle.std.proofs.Common.{◌∙◌, refl}
+use Rattle.ld_run.proofs.FaultLemmas.{handed_on}
 use Rattle.ld_run.proofs.RehearsalLemmas.{answered, writable}
 use Rattle.ld_run.proofs.rehearsal.rehearsal_answer.Goals as goal
 
@@ -16,3 +17,6 @@ returns c =
     c.in_ok-plan-2.field-0.history c.in_ok-plan-2.field-0.full c.in_ok-bytes.bytes c.in_ok-text.text c.unwrap_or-limit.ensures c.in_ok-plan-2.ensures.plan c.in_ok-plan.ensures
     c.in_ok-plan-2.ensures.rehearsed c.in_ok-plan-2.ensures.first c.in_ok-plan-2.ensures.settled c.in_ok-plan-2.ensures.in_time
     (c.of-name.ensures ∙ c.in_ok-from_slice.ensures.items ∙ c.as_slice.ensures) c.in_ok-bytes.ensures c.in_ok-text.ensures
+
+pub returns-in_err-from_slice : goal.returns-in_err-from_slice
+returns-in_err-from_slice c = handed_on _ _ _ _ c.from_residual-in_err-from_slice.ensures (λ other. absurd (other refl))
