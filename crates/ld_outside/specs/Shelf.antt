@@ -1,18 +1,27 @@
 -- What a shelf does with a call, and with a whole text.
-use Rattle.std.specs.Prelude.{◌≡◌, ◌∷◌, ◌⊎◌, ◌++◌, ℕ, List, [], Result, Ok, Err, OnOk, OnErr, take, true, false}
+use Rattle.std.specs.Prelude.{◌≡◌, ◌<◌, ◌≤◌, ◌∷◌, ◌⊎◌, ◌++◌, ℕ, List, [], Result, Ok, Err, OnOk, OnErr, IsErrOf, length, take, true, false}
 use Rattle.std.specs.List.{AllByRecursion}
 use Rattle.ld_outside.specs.ShelfView.{ShelfView, Kept, FileList, bytes_of, FileIs, FilesStay, Became, call_of}
 use Rattle.ld_outside.specs.SinkView.{Rose}
 use Rattle.ld_outside.specs.declared.shelf.ShelfFault.{ShelfFault}
-use Rattle.ld_outside.specs.declared.shelf.ShelfFault.TheVariants.{Failed, Memory}
+use Rattle.ld_outside.specs.declared.shelf.ShelfFault.TheVariants.{Failed, TooLong, Memory}
 use Rattle.ld_outside.specs.declared.shelf_call.ShelfCall.{ShelfCall}
 use Rattle.ld_outside.specs.declared.shelf_call.ShelfCallKind.{ShelfCallKind}
-use Rattle.ld_outside.specs.declared.shelf_call.ShelfCallKind.TheVariants.{Start, Append}
+use Rattle.ld_outside.specs.declared.shelf_call.ShelfCallKind.TheVariants.{Start, Append, Read}
 
--- the count of faults rises with each failure, and with nothing else
+-- the count of faults at reads rises with each read that failed, and with nothing else
+abbrev pub CountsReadFault : {T : Type 0} → ℕ → Result T ShelfFault → ℕ → Type 0
+CountsReadFault before (Ok x) after = after ≡ before
+CountsReadFault before (Err Failed) after = Rose before after
+CountsReadFault before (Err TooLong) after = after ≡ before
+CountsReadFault before (Err Memory) after = after ≡ before
+
+-- the count of faults at writes rises with each write that failed, and with nothing else; a write is never
+-- too long
 abbrev pub CountsWriteFault : {T : Type 0} → ℕ → Result T ShelfFault → ℕ → Type 0
 CountsWriteFault before (Ok x) after = after ≡ before
 CountsWriteFault before (Err Failed) after = Rose before after
+CountsWriteFault before (Err TooLong) after = ⊥
 CountsWriteFault before (Err Memory) after = after ≡ before
 
 -- The calls have this one behind them, and whether it answered Ok. One that was refused for want of
@@ -20,6 +29,7 @@ CountsWriteFault before (Err Memory) after = after ≡ before
 abbrev pub AddsCall : {T : Type 0} → ShelfCallKind → List ℕ → Result T ShelfFault → List ShelfCall → List ShelfCall → Type 0
 AddsCall kind name (Ok x) old new = new ≡ old ++ call_of kind name true ∷ []
 AddsCall kind name (Err Failed) old new = new ≡ old ++ call_of kind name false ∷ []
+AddsCall kind name (Err TooLong) old new = new ≡ old ++ call_of kind name false ∷ []
 AddsCall kind name (Err Memory) old new = (new ≡ old ++ call_of kind name false ∷ []) ⊎ (new ≡ old)
 
 -- One start: the file is there and empty, or it is as it was.
@@ -42,6 +52,18 @@ pub record IsAppend {T : Type 0} (old : ShelfView) (name piece : List ℕ) (resu
   pub calls : Became old (λ before now. AddsCall Append name result before.calls now.calls) new
   pub reads : new.read_faults ≡ old.read_faults
   pub faults : CountsWriteFault old.write_faults result new.write_faults
+
+-- One read: `into` is the file's bytes, which are none where there is no such file. It is too long exactly
+-- where they are more than `cap`, and empty after a fault. Each file is as it was.
+pub record IsRead {T : Type 0} (old : ShelfView) (name : List ℕ) (cap : ℕ) (into : List ℕ) (result : Result T ShelfFault) (new : ShelfView) : Type 0 where
+  pub whole : OnOk result (Became old (λ before now. into ≡ bytes_of name before.files) new)
+  pub within : OnOk result (length into ≤ cap)
+  pub longer : IsErrOf result TooLong → Became old (λ before now. cap < length (bytes_of name before.files)) new
+  pub empty : OnErr result (into ≡ [])
+  pub kept : Became old (λ before now. FilesStay before.files now.files) new
+  pub calls : Became old (λ before now. AddsCall Read name result before.calls now.calls) new
+  pub reads : CountsReadFault old.read_faults result new.read_faults
+  pub writes : new.write_faults ≡ old.write_faults
 
 -- these calls are appends to the file of this name
 abbrev pub AreAppends : List ℕ → List ShelfCall → Type 0

@@ -1,41 +1,60 @@
 // The real files. They tell nothing of what they hold.
-ghost use Rattle.std.specs.Prelude.{◌<◌, ◌≤◌, length, take, [], IfSome, IsTrue};
-ghost use Rattle.std.specs.Io.KnownBytes.{Appends};
-ghost use Rattle.ld_outside.specs.FileShelf.{HasWritten};
+ghost use Rattle.std.specs.Prelude.{◌≡◌, ◌<◌, ◌≤◌, length, take, [], IfSome, IsErrOf, IsTrue, OnOk};
+ghost use Rattle.std.specs.Io.KnownBytes.{Appends, Consumes, IsAtEnd};
+ghost use Rattle.ld_outside.specs.FileShelf.{HasMore, HasRead, HasWritten};
 
 use crate::shelf::{Shelf, ShelfFault};
 use std::fs::{Files, OpenOptions};
-use std::io::{ErrorKind, Write};
+use std::io::{ErrorKind, Read, Write};
 
-/// How often a write that a signal broke off is tried again.
+/// How often a read or a write that a signal broke off is tried again.
 const TRIES: u32 = 64;
 
-/// The files of the machine, through the runtime that it is given. A name is a path. It counts its
-/// faults, and tells nothing of what it holds.
+/// How many bytes a file is asked for at once.
+const PIECE: usize = 4096;
+
+/// The files of the machine, through the runtime that it is given. A name is a path. It fails at each read
+/// of a file that isn't there. It counts its faults, and tells nothing of what it holds.
 #[derive(Drop)]
 pub struct FileShelf<'a, R> {
     rt: &'a R,
+    read_faults: u64,
     write_faults: u64,
 }
 
 impl<'a, R: Files> FileShelf<'a, R> {
-    ghost use Rattle.std.specs.Prelude.{◌≡◌, ◌↔◌, IsOk};
-    ghost use Rattle.ld_outside.specs.Shelf.{CountsWriteFault};
+    ghost use Rattle.std.specs.Prelude.{◌↔◌, IsOk};
+    ghost use Rattle.ld_outside.specs.Shelf.{CountsReadFault, CountsWriteFault};
 
     /// The files of the machine, with no fault counted.
     pub fn new(rt: &'a R) -> FileShelf<'a, R>
-        ensures { result.write_faults ≡ 0 }
+        ensures reads { result.read_faults ≡ 0 }
+        ensures writes { result.write_faults ≡ 0 }
     {
         FileShelf {
             rt,
+            read_faults: 0,
             write_faults: 0,
         }
     }
 
-    // Answers a call that was done, or counts a fault.
-    fn answer(&mut self, done: bool) -> Result<(), ShelfFault>
+    // Answers a read, and counts it where it failed.
+    fn answer_read(&mut self, read: Result<(), ShelfFault>) -> Result<(), ShelfFault>
+        ensures same { result ≡ read }
+        ensures counted { CountsReadFault self.old.read_faults result self.new.read_faults }
+        ensures writes { self.new.write_faults ≡ self.old.write_faults }
+    {
+        if read == Err(ShelfFault::Failed) {
+            self.read_faults = self.read_faults.saturating_add(1);
+        }
+        read
+    }
+
+    // Answers a write that was done, or counts a fault.
+    fn answer_write(&mut self, done: bool) -> Result<(), ShelfFault>
         ensures ok { IsOk result ↔ IsTrue done }
         ensures counted { CountsWriteFault self.old.write_faults result self.new.write_faults }
+        ensures reads { self.new.read_faults ≡ self.old.read_faults }
     {
         if done {
             return Ok(());
@@ -46,26 +65,40 @@ impl<'a, R: Files> FileShelf<'a, R> {
 }
 
 impl<'a, R: Files> Shelf for FileShelf<'a, R> {
-    ghost use Rattle.std.specs.Prelude.{OnOk};
     ghost use Rattle.ld_outside.specs.FileShelf.{untold};
-    ghost use Rattle.ld_outside.specs.Shelf.{IsAppend, IsStart};
+    ghost use Rattle.ld_outside.specs.Shelf.{IsAppend, IsRead, IsStart};
 
-    ghost seen = { λ s. untold s.write_faults };
+    ghost seen = { λ s. untold s.read_faults s.write_faults };
 
     fn start(&mut self, name: &str) -> Result<(), ShelfFault>
-        ensures start { IsStart (untold self.old.write_faults) name.now result (untold self.new.write_faults) }
+        ensures start { IsStart (untold self.old.read_faults self.old.write_faults) name.now result
+            (untold self.new.read_faults self.new.write_faults) }
         ensures opened { OnOk result (HasWritten R.File.contents []) }
     {
         let done = start_file(self.rt, name);
-        self.answer(done)
+        self.answer_write(done)
     }
 
     fn append(&mut self, name: &str, piece: &[u8]) -> Result<(), ShelfFault>
-        ensures append { IsAppend (untold self.old.write_faults) name.now piece.now result (untold self.new.write_faults) }
+        ensures append { IsAppend (untold self.old.read_faults self.old.write_faults) name.now piece.now result
+            (untold self.new.read_faults self.new.write_faults) }
         ensures written { OnOk result (HasWritten R.File.contents piece.now) }
     {
         let done = append_file(self.rt, name, piece);
-        self.answer(done)
+        self.answer_write(done)
+    }
+
+    fn read(&mut self, name: &str, into: &mut Vec<u8>, cap: u64) -> Result<(), ShelfFault>
+        ensures read { IsRead (untold self.old.read_faults self.old.write_faults) name.now cap into.new.items result
+            (untold self.new.read_faults self.new.write_faults) }
+        ensures whole { OnOk result (HasRead R.File.remaining into.new.items) }
+        ensures longer { IsErrOf result ShelfFault.TooLong → HasMore R.File.remaining cap }
+    {
+        let read = read_file(self.rt, name, into, cap);
+        if read.is_err() {
+            into.clear();
+        }
+        self.answer_read(read)
     }
 }
 
@@ -122,4 +155,119 @@ fn write_some<W: Write>(file: &mut W, piece: &[u8]) -> Option<usize>
         }
     }
     None
+}
+
+// Makes `into` the bytes of a file. After a fault it may have any bytes.
+fn read_file<R: Files>(rt: &R, name: &str, into: &mut Vec<u8>, cap: u64) -> Result<(), ShelfFault>
+    ensures whole { OnOk result (HasRead R.File.remaining into.new.items) }
+    ensures within { OnOk result (length into.new.items ≤ cap) }
+    ensures longer { IsErrOf result ShelfFault.TooLong → HasMore R.File.remaining cap }
+{
+    let Ok(mut file) = OpenOptions::new().read(true).open(rt, name) else {
+        return Err(ShelfFault::Failed);
+    };
+    read_to_end(&mut file, into, cap)
+}
+
+// Makes `into` the bytes that a file has left, up to its end or until they are more than `cap`.
+fn read_to_end<F: Read>(file: &mut F, into: &mut Vec<u8>, cap: u64) -> Result<(), ShelfFault>
+    ensures whole { OnOk result (Consumes (F.remaining file.old) (F.remaining file.new) into.new.items) }
+    ensures end { OnOk result (IsAtEnd (F.remaining file.new)) }
+    ensures within { OnOk result (length into.new.items ≤ cap) }
+    ensures front { IsErrOf result ShelfFault.TooLong → Consumes (F.remaining file.old) (F.remaining file.new) into.new.items }
+    ensures longer { IsErrOf result ShelfFault.TooLong → cap < length into.new.items }
+{
+    into.clear();
+    let mut piece = [0; PIECE];
+    while into.len() as u64 <= cap {
+        let Some(count) = read_some(file, &mut piece) else {
+            return Err(ShelfFault::Failed);
+        };
+        if count == 0 {
+            return Ok(());
+        }
+        let (bytes, _) = piece.split_at(count);
+        let Ok(()) = into.extend_from_slice(bytes) else {
+            return Err(ShelfFault::Memory);
+        };
+    }
+    Err(ShelfFault::TooLong)
+}
+
+// Reads bytes into the front of the piece and answers how many, none only at the end of the file. None
+// where the file failed.
+fn read_some<F: Read>(file: &mut F, piece: &mut [u8]) -> Option<usize>
+    ensures within { IfSome result (λ n. n ≤ length piece.new) }
+    ensures bytes { IfSome result (λ n. Consumes (F.remaining file.old) (F.remaining file.new) (take n piece.new)) }
+    ensures end { IfSome result (λ n. n ≡ 0 → 0 < length piece.old → IsAtEnd (F.remaining file.new)) }
+{
+    for _ in 0..TRIES {
+        match file.read(piece) {
+            Ok(count) => return Some(count),
+            Err(error) if error.kind() == ErrorKind::Interrupted => {}
+            Err(_) => return None,
+        }
+    }
+    None
+}
+
+#[cfg(test)]
+mod tests {
+    use super::read_to_end;
+    use crate::shelf::ShelfFault;
+    use std::io;
+    use std::io::{ErrorKind, Read};
+    use std::test::Fail;
+
+    /// A file of three bytes, which gives one at a time, and lets a signal break off every other read. At
+    /// its end it fails, where it is to.
+    #[derive(Drop)]
+    struct Drip {
+        given: u8,
+        is_broken_off: bool,
+        is_to_fail: bool,
+    }
+
+    impl Read for Drip {
+        fn read(&mut self, piece: &mut [u8]) -> io::Result<usize> {
+            self.is_broken_off = !self.is_broken_off;
+            if self.is_broken_off {
+                return Err(io::Error::from(ErrorKind::Interrupted));
+            }
+            if self.given >= 3 {
+                if self.is_to_fail {
+                    return Err(io::Error::from(ErrorKind::Other));
+                }
+                return Ok(0);
+            }
+            let Some(first) = piece.first_mut() else {
+                return Ok(0);
+            };
+            *first = b'x';
+            self.given += 1;
+            Ok(1)
+        }
+    }
+
+    #[test]
+    fn a_file_is_read_byte_by_byte(rt: HostRuntime) -> Result<(), Fail> {
+        let cases = [
+            (false, u64::MAX, Ok(())),
+            (false, 3, Ok(())),
+            (false, 2, Err(ShelfFault::TooLong)),
+            (true, 3, Err(ShelfFault::Failed)),
+        ];
+        for (is_to_fail, cap, want) in cases {
+            let mut file = Drip {
+                given: 0,
+                is_broken_off: false,
+                is_to_fail,
+            };
+            let mut into = Vec::new(rt.alloc());
+            let is_ok = want.is_ok();
+            assert!(rt; read_to_end(&mut file, &mut into, cap) == want);
+            assert!(rt; !is_ok || into.as_slice() == b"xxx".as_slice());
+        }
+        Ok(())
+    }
 }

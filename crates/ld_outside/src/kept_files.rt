@@ -4,6 +4,7 @@ ghost use Rattle.ld_outside.specs.MemShelf.{IsPlace, with_file};
 ghost use Rattle.ld_outside.specs.ShelfView.{bytes_of, call_of, file_of};
 
 use crate::files::Files;
+use crate::shelf::ShelfFault;
 use crate::shelf_call::{ShelfCall, ShelfCallKind};
 use ld_base::{Bytes, Text};
 use std::alloc::{AllocError, Global};
@@ -26,7 +27,7 @@ impl Model for KeptFiles {
 }
 
 impl KeptFiles {
-    ghost use Rattle.ld_outside.specs.MemShelf.{appended, not_started, started};
+    ghost use Rattle.ld_outside.specs.MemShelf.{IsSureRead, appended, not_started, started, was_read};
 
     /// These files, and no calls. It takes no memory.
     pub(crate) fn new(alloc: Global, files: Files) -> KeptFiles
@@ -97,6 +98,42 @@ impl KeptFiles {
         note(self.alloc, &mut self.calls, ShelfCallKind::Append, name, ok)?;
         set_file(&mut self.files, of_file, bytes);
         Ok(())
+    }
+
+    /// A read, which makes `into` the file's bytes, none where there is no such file. It never answers
+    /// `Failed`.
+    pub(crate) fn read(
+        &mut self,
+        name: &str,
+        into: &mut Vec<u8>,
+        cap: u64,
+    ) -> Result<(), ShelfFault>
+        ensures { IsSureRead self.old name.now cap into.new.items result self.new }
+    {
+        into.clear();
+        let bytes = find_file(&self.files, name).unwrap_or(&[]);
+        if bytes.len() as u64 > cap {
+            let Ok(()) = self.tell_read(name, false) else {
+                return Err(ShelfFault::Memory);
+            };
+            return Err(ShelfFault::TooLong);
+        }
+        let Ok(()) = into.reserve(bytes.len()) else {
+            return Err(ShelfFault::Memory);
+        };
+        let Ok(()) = note(self.alloc, &mut self.calls, ShelfCallKind::Read, name, true) else {
+            return Err(ShelfFault::Memory);
+        };
+        into.extend_from_slice(bytes).unwrap();
+        Ok(())
+    }
+
+    /// A read of which only the call is kept, and whether it answered Ok.
+    pub(crate) fn tell_read(&mut self, name: &str, ok: bool) -> Result<(), AllocError>
+        ensures ok { OnOk result (self.new ≡ was_read name.now ok self.old) }
+        ensures err { OnErr result (self.new ≡ self.old) }
+    {
+        note(self.alloc, &mut self.calls, ShelfCallKind::Read, name, ok)
     }
 }
 

@@ -7,13 +7,15 @@ use std::alloc::Global;
 use std::marker::Model;
 
 /// A shelf in memory, which tells its files and its calls. It fails at the calls whose numbers it was
-/// given. An append that fails leaves the first half of its piece.
+/// given, and at each read of a file that isn't there. An append that fails leaves the first half of its
+/// piece.
 #[derive(Debug, Drop)]
 pub struct MemShelf {
     kept: KeptFiles,
     failing: Numbers,
     made: u64,
-    faults: u64,
+    read_faults: u64,
+    write_faults: u64,
 }
 
 impl Model for MemShelf {
@@ -21,7 +23,13 @@ impl Model for MemShelf {
 
     ghost Value = { MemShelfState };
 
-    ghost view = { λ s. record { kept = s.kept; failing = s.failing; made = s.made; faults = s.faults } };
+    ghost view = { λ s. record {
+      kept = s.kept;
+      failing = s.failing;
+      made = s.made;
+      read_faults = s.read_faults;
+      write_faults = s.write_faults;
+    } };
 }
 
 impl MemShelf {
@@ -30,21 +38,23 @@ impl MemShelf {
     ghost use Rattle.ld_outside.specs.MemSink.{count_on};
     ghost use Rattle.ld_outside.specs.ShelfView.{file_of};
 
-    /// A shelf of these files. `failing` has the numbers of the calls of `start` and `append` that are
-    /// to fail, counted from 1. It takes no memory.
+    /// A shelf of these files. `failing` has the numbers of the calls that are to fail: the calls of `start`,
+    /// `append` and `read` are counted together, from 1. It takes no memory.
     pub fn new(alloc: Global, files: Files, failing: Numbers) -> MemShelf
         ensures { result ≡ record {
           kept = record { files = files; calls = [] };
           failing = failing;
           made = 0;
-          faults = 0;
+          read_faults = 0;
+          write_faults = 0;
         } }
     {
         MemShelf {
             kept: KeptFiles::new(alloc, files),
             failing,
             made: 0,
-            faults: 0,
+            read_faults: 0,
+            write_faults: 0,
         }
     }
 
@@ -74,8 +84,8 @@ impl MemShelf {
 }
 
 impl Shelf for MemShelf {
-    ghost use Rattle.ld_outside.specs.MemShelf.{IsMemStart, IsMemAppend, seen_of};
-    ghost use Rattle.ld_outside.specs.Shelf.{IsStart, IsAppend};
+    ghost use Rattle.ld_outside.specs.MemShelf.{IsMemStart, IsMemAppend, IsMemRead, seen_of};
+    ghost use Rattle.ld_outside.specs.Shelf.{IsStart, IsAppend, IsRead};
 
     ghost seen = { seen_of };
 
@@ -87,7 +97,7 @@ impl Shelf for MemShelf {
             let Ok(()) = self.kept.fail_start(name) else {
                 return Err(ShelfFault::Memory);
             };
-            self.faults = self.faults.saturating_add(1);
+            self.write_faults = self.write_faults.saturating_add(1);
             return Err(ShelfFault::Failed);
         }
         let Ok(()) = self.kept.start(name) else {
@@ -105,12 +115,28 @@ impl Shelf for MemShelf {
             let Ok(()) = self.kept.append(name, front, false) else {
                 return Err(ShelfFault::Memory);
             };
-            self.faults = self.faults.saturating_add(1);
+            self.write_faults = self.write_faults.saturating_add(1);
             return Err(ShelfFault::Failed);
         }
         let Ok(()) = self.kept.append(name, piece, true) else {
             return Err(ShelfFault::Memory);
         };
         Ok(())
+    }
+
+    fn read(&mut self, name: &str, into: &mut Vec<u8>, cap: u64) -> Result<(), ShelfFault>
+        ensures read { IsRead (seen_of self.old) name.now cap into.new.items result (seen_of self.new) }
+        ensures exact { IsMemRead self.old name.now cap into.new.items result self.new }
+    {
+        let is_missing = self.kept.file(name).is_none();
+        if self.count_call() || is_missing {
+            into.clear();
+            let Ok(()) = self.kept.tell_read(name, false) else {
+                return Err(ShelfFault::Memory);
+            };
+            self.read_faults = self.read_faults.saturating_add(1);
+            return Err(ShelfFault::Failed);
+        }
+        self.kept.read(name, into, cap)
     }
 }

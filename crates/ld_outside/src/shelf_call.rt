@@ -1,12 +1,14 @@
 use ld_base::Text;
 
-/// What a call of a shelf does to a file.
+/// What a call of a shelf does with a file.
 #[derive(Clone, Copy, Debug, PartialEq, Eq)]
 pub enum ShelfCallKind {
     /// The file is made empty.
     Start,
     /// A piece is put behind the file's bytes.
     Append,
+    /// The file's bytes are read, and it stays as it is.
+    Read,
 }
 
 /// One call of a shelf, as the shelf tells it.

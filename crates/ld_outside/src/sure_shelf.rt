@@ -5,7 +5,8 @@ use crate::shelf_call::ShelfCall;
 use std::alloc::Global;
 use std::marker::Model;
 
-/// A shelf in memory that never fails, but for want of memory. It is seen as its files and its calls.
+/// A shelf in memory that never fails, but for want of memory. It reads a file that isn't there as an empty
+/// one, and answers `TooLong` as each shelf does. It is seen as its files and its calls.
 #[derive(Debug, Drop)]
 pub struct SureShelf {
     kept: KeptFiles,
@@ -50,8 +51,8 @@ impl SureShelf {
 
 impl Shelf for SureShelf {
     ghost use Rattle.std.specs.Prelude.{◌≡◌, true, MatchResult};
-    ghost use Rattle.ld_outside.specs.MemShelf.{appended, seen_of_sure, started};
-    ghost use Rattle.ld_outside.specs.Shelf.{IsStart, IsAppend};
+    ghost use Rattle.ld_outside.specs.MemShelf.{IsSureRead, appended, seen_of_sure, started};
+    ghost use Rattle.ld_outside.specs.Shelf.{IsStart, IsAppend, IsRead};
 
     ghost seen = { seen_of_sure };
 
@@ -77,5 +78,12 @@ impl Shelf for SureShelf {
             return Err(ShelfFault::Memory);
         };
         Ok(())
+    }
+
+    fn read(&mut self, name: &str, into: &mut Vec<u8>, cap: u64) -> Result<(), ShelfFault>
+        ensures read { IsRead (seen_of_sure self.old) name.now cap into.new.items result (seen_of_sure self.new) }
+        ensures exact { IsSureRead self.old name.now cap into.new.items result self.new }
+    {
+        self.kept.read(name, into, cap)
     }
 }

@@ -82,6 +82,7 @@ fn put_on_shelf(alloc: Global, failing: &[u64], name: &str) -> Result<(MemShelf,
 
 // Carries a call out, and answers whether it is as was wanted.
 fn is_answered<S: Shelf>(
+    alloc: Global,
     shelf: &mut S,
     kind: ShelfCallKind,
     name: &str,
@@ -91,12 +92,30 @@ fn is_answered<S: Shelf>(
     let answer = match kind {
         ShelfCallKind::Start => shelf.start(name),
         ShelfCallKind::Append => shelf.append(name, piece),
+        ShelfCallKind::Read => shelf.read(name, &mut Vec::new(alloc), u64::MAX),
     };
     match answer {
         Ok(()) => ok,
         Err(ShelfFault::Failed) => !ok,
-        Err(ShelfFault::Memory) => false,
+        Err(ShelfFault::TooLong | ShelfFault::Memory) => false,
     }
+}
+
+// Reads a file into a vector that has bytes, and answers whether the vector has the wanted text then, or
+// nothing at the wanted fault.
+fn is_read<S: Shelf>(
+    alloc: Global,
+    shelf: &mut S,
+    name: &str,
+    cap: u64,
+    want: Result<&str, ShelfFault>,
+) -> Result<bool, AllocError> {
+    let mut into = Vec::from_slice(alloc, b"before")?;
+    let answer = shelf.read(name, &mut into, cap);
+    Ok(match want {
+        Ok(text) => answer.is_ok() && into.as_slice() == text.as_bytes(),
+        Err(fault) => answer == Err(fault) && into.is_empty(),
+    })
 }
 
 #[test]
@@ -141,16 +160,19 @@ fn a_text_is_put_on_a_shelf_in_memory(rt: HostRuntime) -> Result<(), Fail> {
 #[test]
 fn a_shelf_in_memory_tells_its_calls(rt: HostRuntime) -> Result<(), Fail> {
     let alloc = rt.alloc();
-    let mut shelf = MemShelf::new(alloc, files(alloc)?, numbers(&rt, &[2, 4])?);
+    let mut shelf = MemShelf::new(alloc, files(alloc)?, numbers(&rt, &[2, 4, 7])?);
     let calls = [
         (ShelfCallKind::Append, "third", "abc", true),
         (ShelfCallKind::Append, "third", "defg", false),
         (ShelfCallKind::Append, "third", "hi", true),
         (ShelfCallKind::Start, "first", "", false),
         (ShelfCallKind::Start, "second", "", true),
+        (ShelfCallKind::Read, "third", "", true),
+        (ShelfCallKind::Read, "first", "", false),
+        (ShelfCallKind::Read, "fourth", "", false),
     ];
     for (kind, name, piece, ok) in calls {
-        assert!(rt; is_answered(&mut shelf, kind, name, piece.as_bytes(), ok));
+        assert!(rt; is_answered(alloc, &mut shelf, kind, name, piece.as_bytes(), ok));
     }
     let wants = [("first", "one"), ("second", ""), ("third", "abcdehi")];
     for (name, want) in wants {
@@ -175,7 +197,7 @@ fn a_sure_shelf_takes_each_text(rt: HostRuntime) -> Result<(), Fail> {
         (ShelfCallKind::Start, "third", ""),
     ];
     for (kind, name, piece) in calls {
-        assert!(rt; is_answered(&mut shelf, kind, name, piece.as_bytes(), true));
+        assert!(rt; is_answered(alloc, &mut shelf, kind, name, piece.as_bytes(), true));
     }
     let wants = [
         ("first", Some("new text")),
@@ -197,14 +219,76 @@ fn a_text_is_put_into_a_real_file(rt: HostRuntime) -> Result<(), Fail> {
     for text in ["a longer text", "text"] {
         assert!(rt; put_file(&mut shelf, name, text.as_bytes()).is_ok());
     }
-    assert!(rt; is_answered(&mut shelf, ShelfCallKind::Append, name, b" and more", true));
+    assert!(rt; shelf.append(name, b" and more").is_ok());
     assert_eq!(rt;
         fs::read(&rt, name)?.as_slice(),
         b"text and more".as_slice()
     );
     fs::remove_file(&rt, name)?;
-    for kind in [ShelfCallKind::Start, ShelfCallKind::Append] {
-        assert!(rt; is_answered(&mut shelf, kind, "no_such_folder/file", b"text", false));
+    let lost = "no_such_folder/file";
+    assert!(rt; shelf.start(lost) == Err(ShelfFault::Failed));
+    assert!(rt; shelf.append(lost, b"text") == Err(ShelfFault::Failed));
+    Ok(())
+}
+
+#[test]
+fn a_shelf_in_memory_is_read(rt: HostRuntime) -> Result<(), Fail> {
+    let alloc = rt.alloc();
+    let mut shelf = MemShelf::new(alloc, files(alloc)?, numbers(&rt, &[4])?);
+    let cases = [
+        ("second", u64::MAX, Ok("two")),
+        ("second", 3, Ok("two")),
+        ("second", 2, Err(ShelfFault::TooLong)),
+        ("second", 3, Err(ShelfFault::Failed)),
+        ("third", 3, Err(ShelfFault::Failed)),
+        ("first", 4, Ok("one")),
+    ];
+    for (name, cap, want) in cases {
+        assert!(rt; is_read(alloc, &mut shelf, name, cap, want)?);
     }
+    Ok(())
+}
+
+#[test]
+fn a_sure_shelf_is_read(rt: HostRuntime) -> Result<(), Fail> {
+    let alloc = rt.alloc();
+    let mut shelf = SureShelf::new(alloc, files(alloc)?);
+    let cases = [
+        ("second", u64::MAX, Ok("two")),
+        ("second", 3, Ok("two")),
+        ("second", 2, Err(ShelfFault::TooLong)),
+        ("third", 0, Ok("")),
+    ];
+    for (name, cap, want) in cases {
+        assert!(rt; is_read(alloc, &mut shelf, name, cap, want)?);
+    }
+    let oks = [true, true, false, true];
+    assert_eq!(rt; shelf.calls().len(), oks.len());
+    for (call, ok) in shelf.calls().iter().zip(oks) {
+        assert_eq!(rt; call.kind, ShelfCallKind::Read);
+        assert_eq!(rt; call.answered_ok, ok);
+    }
+    Ok(())
+}
+
+#[test]
+fn a_real_file_is_read(rt: HostRuntime) -> Result<(), Fail> {
+    let alloc = rt.alloc();
+    let name = "shelf_read_test.txt";
+    let text = String::from_utf8(vec![in alloc; b'x'; 9000]?)?;
+    fs::write(&rt, name, text.as_bytes())?;
+    let mut shelf = FileShelf::new(&rt);
+    let cases = [
+        (name, u64::MAX, Ok(text.as_str())),
+        (name, 9000, Ok(text.as_str())),
+        (name, 8999, Err(ShelfFault::TooLong)),
+        (name, 0, Err(ShelfFault::TooLong)),
+        ("no_such_file", 9000, Err(ShelfFault::Failed)),
+        (".", 9000, Err(ShelfFault::Failed)),
+    ];
+    for (name, cap, want) in cases {
+        assert!(rt; is_read(alloc, &mut shelf, name, cap, want)?);
+    }
+    fs::remove_file(&rt, name)?;
     Ok(())
 }
