@@ -1,6 +1,7 @@
 -- Fronts of forms, and the one place at which words are refused.
-use Rattle.std.proofs.Common.{◌≡◌, ◌≢◌, ◌<◌, ◌≤◌, ◌+◌, ◌∙◌, ◌++◌, ◌∷◌, [], ℕ, List, length, get_or, take, drop, arith, ap, sym, subst}
-use Rattle.std.specs.Prelude.{Some, slice_get}
+use Rattle.std.proofs.Common.{◌≡◌, ◌≢◌, ◌<◌, ◌≤◌, ◌+◌, ◌∙◌, ◌++◌, ◌∷◌, [], ℕ, List, length, get_or, map, take, drop, arith, refl, ap, sym, subst}
+use Rattle.std.specs.Prelude.{◌||◌, Bool, Some, slice_get}
+use Rattle.std.specs.List.{list_any}
 use Rattle.std.proofs.Math.Decide.{dec_lt}
 use Rattle.std.proofs.Math.Seq.{append_snoc, take-append-add, take-length, take-take}
 use Rattle.std.proofs.lemmas.List.{append_assoc, length-append, take-append-drop, take_more}
@@ -107,3 +108,9 @@ refused_at_end form words front never =
     refused_at form words (length words) (omega arith) (subst (IsFront form) (sym (take-length words)) front)
     (λ word more at whole. let inside = slice_get_within words (length words) word at in absurd (omega arith))
     (λ end whole. never whole)
+
+-- ---- what is looked for among items
+
+pub list_any-map : {A B : Type 0} (p : B → Bool) (f : A → B) (xs : List A) → list_any (λ x. p (f x)) xs ≡ list_any p (map f xs)
+list_any-map p f [] = refl
+list_any-map p f (x ∷ xs) = ap (λ b. p (f x) || b) (list_any-map p f xs)

@@ -3,8 +3,9 @@ use Rattle.std.proofs.Common.{◌≡◌, ◌<◌, ◌+◌, ◌∙◌, ◌++◌, 
 use Rattle.std.specs.Prelude.{Bool, MatchOption, Option, Some, None}
 use Rattle.std.proofs.lemmas.List.{map-append, take_more}
 use Rattle.ld_words.specs.Options.{is_name, value_of, Given}
-use Rattle.ld_words.specs.OptionWords.{given_by, SpanUnder}
+use Rattle.ld_words.specs.OptionWords.{given_by}
 use Rattle.ld_words.specs.Values.{IsSpan}
+use Rattle.ld_words.specs.Words.{SpanUnder}
 use Rattle.ld_words.specs.declared.given.GivenOption.{GivenOption}
 use Rattle.ld_words.specs.declared.option.OptionName.{OptionName}
 use Rattle.ld_words.proofs.OptionLemmas.{value_of_none_more}

@@ -1,5 +1,5 @@
 -- Options: their names, what stands behind some of them, and what is given under a name.
-use Rattle.std.proofs.Common.{◌≡◌, ◌≢◌, ◌<◌, ◌≤◌, ◌+◌, ◌∙◌, ◌++◌, ◌∷◌, [], ◌⊎◌, inl, inr, ℕ, List, get_or, length, true, false, arith, refl, ap, sym, subst}
+use Rattle.std.proofs.Common.{◌≡◌, ◌≢◌, ◌<◌, ◌≤◌, ◌+◌, ◌∙◌, ◌++◌, ◌∷◌, [], ℕ, List, get_or, length, true, false, arith, refl, ap, sym, subst}
 use Rattle.std.specs.Prelude.{◌==◌, Bool, Option, Some, None, codes, if◌then◌else◌}
 use Rattle.std.specs.List.{AllByRecursion, after_first, before_first, flat_map, list_any}
 use Rattle.std.specs.Str.{bytes_eq}
@@ -7,38 +7,44 @@ use Rattle.std.proofs.lemmas.List.Sums.{sum_by-append, sum_by-cons}
 use Rattle.std.proofs.lemmas.List.{append_assoc}
 use Rattle.std.proofs.lemmas.List.Folds.{list_any_at}
 use Rattle.std.proofs.lemmas.Slice.Eq.{bytes_eq-Decides}
-use Rattle.ld_words.specs.Options.{is_among, is_name, name_text, option_words, times_given, value_of, Given, Written}
+use Rattle.ld_words.specs.Options.{is_among, is_name, kind_of, name_text, option_words, times_given, value_of, words_by, Fits, Given, IsOptionOf, Manner, Written}
+use Rattle.ld_words.specs.Options.Manner.{Apart, Joined, Alone}
+use Rattle.ld_words.specs.Values.{IsValueOf}
 use Rattle.ld_words.specs.declared.option.OptionName.{OptionName}
-use Rattle.ld_words.specs.declared.option.OptionName.TheVariants.{Segment, Sequence, Rate, Unit, Duration, Pre, Max, Iteration, Journal, Entries}
+use Rattle.ld_words.specs.declared.option.OptionName.TheVariants as names
+use Rattle.ld_words.specs.declared.value.ValueKind.{ValueKind}
+use Rattle.ld_words.specs.declared.value.ValueKind.TheVariants.{Flag}
 
 -- ---- names
 
 -- the name that a text is
 name_in : List ℕ → OptionName
 name_in text =
-    if bytes_eq text (codes "--segment") then Segment
-    else if bytes_eq text (codes "--sequence") then Sequence
-    else if bytes_eq text (codes "--rate") then Rate
-    else if bytes_eq text (codes "--unit") then Unit
-    else if bytes_eq text (codes "--duration") then Duration
-    else if bytes_eq text (codes "--pre") then Pre
-    else if bytes_eq text (codes "--max") then Max
-    else if bytes_eq text (codes "--iteration") then Iteration
-    else if bytes_eq text (codes "--journal") then Journal
-    else Entries
+    if bytes_eq text (codes "--segment") then names.Segment
+    else if bytes_eq text (codes "--sequence") then names.Sequence
+    else if bytes_eq text (codes "--rate") then names.Rate
+    else if bytes_eq text (codes "--unit") then names.Unit
+    else if bytes_eq text (codes "--duration") then names.Duration
+    else if bytes_eq text (codes "--pre") then names.Pre
+    else if bytes_eq text (codes "--max") then names.Max
+    else if bytes_eq text (codes "--iteration") then names.Iteration
+    else if bytes_eq text (codes "--journal") then names.Journal
+    else if bytes_eq text (codes "--entries") then names.Entries
+    else names.List
 
 name_in_text : (n : OptionName) → name_in (name_text n) ≡ n
 unfolding name_in
-name_in_text Segment = refl
-name_in_text Sequence = refl
-name_in_text Rate = refl
-name_in_text Unit = refl
-name_in_text Duration = refl
-name_in_text Pre = refl
-name_in_text Max = refl
-name_in_text Iteration = refl
-name_in_text Journal = refl
-name_in_text Entries = refl
+name_in_text names.Segment = refl
+name_in_text names.Sequence = refl
+name_in_text names.Rate = refl
+name_in_text names.Unit = refl
+name_in_text names.Duration = refl
+name_in_text names.Pre = refl
+name_in_text names.Max = refl
+name_in_text names.Iteration = refl
+name_in_text names.Journal = refl
+name_in_text names.Entries = refl
+name_in_text names.List = refl
 
 pub name_from_text : (a b : OptionName) → name_text a ≡ name_text b → a ≡ b
 name_from_text a b e = sym (name_in_text a) ∙ ap name_in e ∙ name_in_text b
@@ -48,52 +54,56 @@ abbrev pub is_equals : ℕ → Bool
 is_equals b = b == 61
 
 no_equals : (n : OptionName) → list_any is_equals (name_text n) ≡ false
-no_equals Segment = refl
-no_equals Sequence = refl
-no_equals Rate = refl
-no_equals Unit = refl
-no_equals Duration = refl
-no_equals Pre = refl
-no_equals Max = refl
-no_equals Iteration = refl
-no_equals Journal = refl
-no_equals Entries = refl
+no_equals names.Segment = refl
+no_equals names.Sequence = refl
+no_equals names.Rate = refl
+no_equals names.Unit = refl
+no_equals names.Duration = refl
+no_equals names.Pre = refl
+no_equals names.Max = refl
+no_equals names.Iteration = refl
+no_equals names.Journal = refl
+no_equals names.Entries = refl
+no_equals names.List = refl
 
 some_equals : (n : OptionName) (v : List ℕ) → list_any is_equals (name_text n ++ 61 ∷ v) ≡ true
-some_equals Segment v = refl
-some_equals Sequence v = refl
-some_equals Rate v = refl
-some_equals Unit v = refl
-some_equals Duration v = refl
-some_equals Pre v = refl
-some_equals Max v = refl
-some_equals Iteration v = refl
-some_equals Journal v = refl
-some_equals Entries v = refl
+some_equals names.Segment v = refl
+some_equals names.Sequence v = refl
+some_equals names.Rate v = refl
+some_equals names.Unit v = refl
+some_equals names.Duration v = refl
+some_equals names.Pre v = refl
+some_equals names.Max v = refl
+some_equals names.Iteration v = refl
+some_equals names.Journal v = refl
+some_equals names.Entries v = refl
+some_equals names.List v = refl
 
 pub before_equals : (n : OptionName) (v : List ℕ) → before_first is_equals (name_text n ++ 61 ∷ v) ≡ name_text n
-before_equals Segment v = refl
-before_equals Sequence v = refl
-before_equals Rate v = refl
-before_equals Unit v = refl
-before_equals Duration v = refl
-before_equals Pre v = refl
-before_equals Max v = refl
-before_equals Iteration v = refl
-before_equals Journal v = refl
-before_equals Entries v = refl
+before_equals names.Segment v = refl
+before_equals names.Sequence v = refl
+before_equals names.Rate v = refl
+before_equals names.Unit v = refl
+before_equals names.Duration v = refl
+before_equals names.Pre v = refl
+before_equals names.Max v = refl
+before_equals names.Iteration v = refl
+before_equals names.Journal v = refl
+before_equals names.Entries v = refl
+before_equals names.List v = refl
 
 pub after_equals : (n : OptionName) (v : List ℕ) → after_first is_equals (name_text n ++ 61 ∷ v) ≡ v
-after_equals Segment v = refl
-after_equals Sequence v = refl
-after_equals Rate v = refl
-after_equals Unit v = refl
-after_equals Duration v = refl
-after_equals Pre v = refl
-after_equals Max v = refl
-after_equals Iteration v = refl
-after_equals Journal v = refl
-after_equals Entries v = refl
+after_equals names.Segment v = refl
+after_equals names.Sequence v = refl
+after_equals names.Rate v = refl
+after_equals names.Unit v = refl
+after_equals names.Duration v = refl
+after_equals names.Pre v = refl
+after_equals names.Max v = refl
+after_equals names.Iteration v = refl
+after_equals names.Journal v = refl
+after_equals names.Entries v = refl
+after_equals names.List v = refl
 
 pub alone_isn't_joined : (a b : OptionName) (value : List ℕ) → name_text a ≡ name_text b ++ 61 ∷ value → ⊥
 alone_isn't_joined a b value e = let clash = sym (no_equals a) ∙ ap (list_any is_equals) e ∙ some_equals b value in cc
@@ -106,53 +116,64 @@ joined_once a b v w e = (
 
 -- ---- what stands behind options
 
-written_of : OptionName → List ℕ → Bool → Written
-written_of n v j = record { option = record { name = n; value = v }; joined = j }
+written_of : OptionName → List ℕ → Manner → Written
+written_of n v j = record { option = record { name = n; value = v }; manner = j }
+
+-- a flag has no value
+pub no_flag_value : (k : ValueKind) (v : List ℕ) → k ≡ Flag → IsValueOf k v → ⊥
+no_flag_value k v flag is = subst (λ l. IsValueOf l v) flag is
 
 -- one option in front of words that are options is the first of them
-first_from_parts : (n m : OptionName) (v w : List ℕ) (j k : Bool) (x : List (List ℕ)) (ws : List Written) →
-    option_words (record { option = record { name = n; value = v }; joined = j }) ++ x
-    ≡ option_words (record { option = record { name = m; value = w }; joined = k }) ++ flat_map option_words ws →
-    (n ≡ m) × (v ≡ w) × (j ≡ k) × (x ≡ flat_map option_words ws)
-first_from_parts n m v w true true x ws e =
+first_from_parts : (n m : OptionName) (v w : List ℕ) (j k : Manner) (x y : List (List ℕ)) → Fits j (kind_of n) v → Fits k (kind_of m) w →
+    words_by j (name_text n) v ++ x ≡ words_by k (name_text m) w ++ y → (n ≡ m) × (v ≡ w) × (j ≡ k) × (x ≡ y)
+first_from_parts n m v w Joined Joined x y f g e =
     let same = joined_once n m v w cc in
     (same.0, same.1, refl, cc)
-first_from_parts n m v w true false x ws e = absurd (alone_isn't_joined m n v cc)
-first_from_parts n m v w false true x ws e = absurd (alone_isn't_joined n m w cc)
-first_from_parts n m v w false false x ws e = (name_from_text n m cc, cc, refl, cc)
+first_from_parts n m v w Joined Apart x y f g e = absurd (alone_isn't_joined m n v cc)
+first_from_parts n m v w Joined Alone x y f g e = absurd (alone_isn't_joined m n v cc)
+first_from_parts n m v w Apart Joined x y f g e = absurd (alone_isn't_joined n m w cc)
+first_from_parts n m v w Apart Apart x y f g e = (name_from_text n m cc, cc, refl, cc)
+first_from_parts n m v w Apart Alone x y f g e =
+    absurd (no_flag_value (kind_of n) v (ap kind_of (name_from_text n m cc) ∙ g.0) f)
+first_from_parts n m v w Alone Joined x y f g e = absurd (alone_isn't_joined n m w cc)
+first_from_parts n m v w Alone Apart x y f g e =
+    absurd (no_flag_value (kind_of m) w (ap kind_of (sym (name_from_text n m cc)) ∙ f.0) g)
+first_from_parts n m v w Alone Alone x y f g e = (name_from_text n m cc, f.1 ∙ sym g.1, refl, cc)
 
-some_words : (n : OptionName) (v : List ℕ) (j : Bool) (x : List (List ℕ)) →
-    option_words (record { option = record { name = n; value = v }; joined = j }) ++ x ≡ [] → ⊥
-some_words n v true x e = cc
-some_words n v false x e = cc
+some_words : (n : OptionName) (v : List ℕ) (j : Manner) (x : List (List ℕ)) → words_by j (name_text n) v ++ x ≡ [] → ⊥
+some_words n v Joined x e = cc
+some_words n v Apart x e = cc
+some_words n v Alone x e = cc
 
-pub first_written : (w : Written) (x : List (List ℕ)) (ws : List Written) → option_words w ++ x ≡ flat_map option_words ws →
-    (rest : List Written) × (ws ≡ w ∷ rest) × (x ≡ flat_map option_words rest)
+first_written : (names : List OptionName) (w : Written) (x : List (List ℕ)) (ws : List Written) → IsOptionOf names w → AllByRecursion (IsOptionOf names) ws →
+    option_words w ++ x ≡ flat_map option_words ws → (rest : List Written) × (ws ≡ w ∷ rest) × (x ≡ flat_map option_words rest)
 unfolding written_of
-first_written w x [] e = absurd (some_words w.option.name w.option.value w.joined x e)
-first_written w x (v ∷ ws) e =
-    let same = first_from_parts w.option.name v.option.name w.option.value v.option.value w.joined v.joined x ws e in
+first_written names w x [] is all e = absurd (some_words w.option.name w.option.value w.manner x e)
+first_written names w x (v ∷ ws) is all e =
+    let same = first_from_parts w.option.name v.option.name w.option.value v.option.value w.manner v.manner x (flat_map option_words ws) is.fits all.0.fits e in
     (ws, ap (λ (k : Written). k ∷ ws) (written_from_parts w v same.0 same.1 same.2), same.3)
   where
-    written_from_parts : (g h : Written) → g.option.name ≡ h.option.name → g.option.value ≡ h.option.value → g.joined ≡ h.joined → h ≡ g
-    written_from_parts g h names values spellings =
-        ap (λ n. written_of n h.option.value h.joined) (sym names)
-        ∙ ap (λ v. written_of g.option.name v h.joined) (sym values)
-        ∙ ap (written_of g.option.name g.option.value) (sym spellings)
+    written_from_parts : (g h : Written) → g.option.name ≡ h.option.name → g.option.value ≡ h.option.value → g.manner ≡ h.manner → h ≡ g
+    written_from_parts g h names values manners =
+        ap (λ n. written_of n h.option.value h.manner) (sym names)
+        ∙ ap (λ v. written_of g.option.name v h.manner) (sym values)
+        ∙ ap (written_of g.option.name g.option.value) (sym manners)
 
 -- options in front of words that are options are the first of them
-pub behind_written : (ws all : List Written) (x : List (List ℕ)) → flat_map option_words ws ++ x ≡ flat_map option_words all →
+pub behind_written : (names : List OptionName) (ws all : List Written) (x : List (List ℕ)) → AllByRecursion (IsOptionOf names) ws →
+    AllByRecursion (IsOptionOf names) all → flat_map option_words ws ++ x ≡ flat_map option_words all →
     (rest : List Written) × (all ≡ ws ++ rest) × (x ≡ flat_map option_words rest)
-behind_written [] all x e = (all, refl, e)
-behind_written (w ∷ ws) all x e =
-    let first = first_written w (flat_map option_words ws ++ x) all (sym (append_assoc (option_words w) (flat_map option_words ws) x) ∙ e) in
-    let more = behind_written ws first.0 x first.2 in
+behind_written names [] all x are each e = (all, refl, e)
+behind_written names (w ∷ ws) all x are each e =
+    let first = first_written names w (flat_map option_words ws ++ x) all are.0 each (sym (append_assoc (option_words w) (flat_map option_words ws) x) ∙ e) in
+    let rest = subst (AllByRecursion (IsOptionOf names)) first.1 each in
+    let more = behind_written names ws first.0 x are.1 rest.1 first.2 in
     (more.0, first.1 ∙ ap (λ hs. w ∷ hs) more.1, more.2)
 
 -- words that are no option more
 pub no_written : (ws : List Written) → [] ≡ flat_map option_words ws → ws ≡ []
 no_written [] e = refl
-no_written (w ∷ ws) e = absurd (some_words w.option.name w.option.value w.joined (flat_map option_words ws) (sym e))
+no_written (w ∷ ws) e = absurd (some_words w.option.name w.option.value w.manner (flat_map option_words ws) (sym e))
 
 -- ---- what is given under a name
 
@@ -168,13 +189,6 @@ not_name n m other = step (is_name n m) refl
     step : (b : Bool) → is_name n m ≡ b → is_name n m ≡ false
     step true is = absurd (other (same_name n m is))
     step false is = is
-
-pub same_or_other : (n m : OptionName) → (n ≡ m) ⊎ (n ≢ m)
-same_or_other n m = step (is_name n m) refl
-  where
-    step : (b : Bool) → is_name n m ≡ b → (n ≡ m) ⊎ (n ≢ m)
-    step true is = inl (same_name n m is)
-    step false is = inr (λ same. let clash = sym is ∙ ap (is_name n) (sym same) ∙ is_name_itself n in cc)
 
 times-append : (n : OptionName) (gs hs : List Given) → times_given n (gs ++ hs) ≡ times_given n gs + times_given n hs
 times-append n gs hs = sum_by-append (λ (g : Given). if is_name n g.name then 1 else 0) gs hs
@@ -284,11 +298,6 @@ value_of_none_more n [] g none other = value-there n g [] other
 value_of_none_more n (h ∷ gs) g none other = more_step n h gs g None (is_name n h.name) refl (λ less. value_of_none_more n gs g less other) none
 
 -- ---- the names among which a text is looked for
-
-pub not_written : (names : List OptionName) (text : List ℕ) → list_any (λ (m : OptionName). bytes_eq text (name_text m)) names ≡ false →
-    (n : OptionName) → is_among n names ≡ true → text ≢ name_text n
-not_written names text none n among same =
-    let clash = sym among ∙ ap (λ t. list_any (λ (m : OptionName). bytes_eq t (name_text m)) names) (sym same) ∙ none in cc
 
 pub written_at : (names : List OptionName) (text : List ℕ) (i : ℕ) (d : OptionName) → i < length names → bytes_eq text (name_text (get_or names i d)) ≡ true →
     (is_among (get_or names i d) names ≡ true) × (text ≡ name_text (get_or names i d))

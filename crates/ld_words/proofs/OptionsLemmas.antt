@@ -8,11 +8,14 @@ use Rattle.std.proofs.Math.Seq.{take-length}
 use Rattle.std.proofs.lemmas.List.{append_assoc, append-nil, map-append, take_more}
 use Rattle.std.proofs.lemmas.Option.{slice_get-get_or, slice_get-map, slice_get_within, get_or_from_slice_get}
 use Rattle.ld_words.specs.Form.{IsFront, IsRefusedBy}
-use Rattle.ld_words.specs.Options.{is_among, kind_of, name_text, option_words, times_given, value_of, AreOptions, Given, IsOptionOf, Written}
-use Rattle.ld_words.specs.OptionWords.{given_by, IsNotOf, IsStep, OfOptions}
+use Rattle.ld_words.specs.Options.{is_among, kind_of, name_text, option_words, times_given, value_of, words_by, AreOptions, Fits, Given, IsOptionOf, Manner, Written}
+use Rattle.ld_words.specs.Options.Manner.{Apart, Joined, Alone}
+use Rattle.ld_words.specs.OptionWords.{given_by, HasNoValue, HasValue, IsNotOf, IsStep, OfOptions}
 use Rattle.ld_words.specs.Values.{IsValueOf}
 use Rattle.ld_words.specs.declared.given.GivenOption.{GivenOption}
 use Rattle.ld_words.specs.declared.option.OptionName.{OptionName}
+use Rattle.ld_words.specs.declared.value.ValueKind.{ValueKind}
+use Rattle.ld_words.specs.declared.value.ValueKind.TheVariants.{Plain, Number, Count, Span, Entries, Weights, Flag}
 use Rattle.ld_words.proofs.FormLemmas.{refused_at}
 use Rattle.ld_words.proofs.OptionLemmas.{alone_isn't_joined, behind_written, joined_once, name_from_text, no_written, not_given_before, same_name, times_more, value_has, value_of_kept, value_of_more}
 use Rattle.ld_words.proofs.ValueLemmas.{sample}
@@ -27,9 +30,6 @@ all_back : {A : Type 0} (P : A → Type 0) (xs ys : List A) → AllByRecursion P
 all_back P [] ys all = all
 all_back P (x ∷ xs) ys all = all_back P xs ys all.1
 
-option_of : Written → Given
-option_of w = w.option
-
 -- ---- one option more
 
 -- no options are none
@@ -43,21 +43,37 @@ no_options names = record {
 }
 
 pub option_more : (names : List OptionName) (words : List (List ℕ)) (given : List Given) (w : Written) → AreOptions names words given →
-    IsOptionOf names w.option → value_of w.option.name given ≡ None → AreOptions names (words ++ option_words w) (given ++ w.option ∷ [])
+    IsOptionOf names w → value_of w.option.name given ≡ None → AreOptions names (words ++ option_words w) (given ++ w.option ∷ [])
 option_more names words given w are valid none = record {
   written = are.written ++ w ∷ [];
   words_are = ap (λ ws. ws ++ option_words w) are.words_are ∙ sym (flat_map-append option_words are.written (w ∷ []) ∙ ap (λ ws. flat_map option_words are.written ++ ws) (append-nil (option_words w)));
   given_are = ap (λ gs. gs ++ w.option ∷ []) are.given_are ∙ sym (map-append (λ (v : Written). v.option) are.written (w ∷ []));
-  each = all_append (IsOptionOf names) given (w.option ∷ []) are.each (valid, tt);
+  each = all_append (IsOptionOf names) are.written (w ∷ []) are.each (valid, tt);
   once = λ n. times_more given w.option n none (are.once n);
 }
 
--- a value under a name is of the name's kind
+-- a value that fits is of its kind, or it is a flag's
+pub record IsKept (option : Given) : Type 0 where
+  pub is : (kind_of option.name ≢ Flag → IsValueOf (kind_of option.name) option.value)
+
+fits_kept : (j : Manner) (k : ValueKind) (v : List ℕ) → Fits j k v → k ≢ Flag → IsValueOf k v
+fits_kept Apart k v fits taken = fits
+fits_kept Joined k v fits taken = fits
+fits_kept Alone k v fits taken = absurd (taken fits.0)
+
+all_kept : (names : List OptionName) (ws : List Written) → AllByRecursion (IsOptionOf names) ws →
+    AllByRecursion IsKept (map (λ (w : Written). w.option) ws)
+all_kept names [] all = tt
+all_kept names (w ∷ ws) all =
+    (record { is = fits_kept w.manner (kind_of w.option.name) w.option.value all.0.fits }, all_kept names ws all.1)
+
+-- a value under a name that is no flag's is of the name's kind
 pub value_valid : (names : List OptionName) (words : List (List ℕ)) (given : List Given) → AreOptions names words given →
-    (n : OptionName) (v : List ℕ) → value_of n given ≡ Some v → IsValueOf (kind_of n) v
-value_valid names words given are n =
-    value_has n (IsValueOf (kind_of n)) (IsOptionOf names)
-    (λ g is valid. subst (λ m. IsValueOf (kind_of m) g.value) (sym (same_name n g.name is)) valid.value) given are.each
+    (n : OptionName) (v : List ℕ) → value_of n given ≡ Some v → kind_of n ≢ Flag → IsValueOf (kind_of n) v
+value_valid names words given are n v some taken =
+    value_has n (IsValueOf (kind_of n)) IsKept
+    (λ g is kept. subst (λ m. IsValueOf (kind_of m) g.value) (sym (same_name n g.name is)) (kept.is (subst (λ m. kind_of m ≢ Flag) (same_name n g.name is) taken)))
+    given (subst (AllByRecursion IsKept) (sym are.given_are) (all_kept names are.written are.each)) v some
 
 -- ---- the options of a form, all of them
 
@@ -75,9 +91,28 @@ pub record CanHave (names : List OptionName) (words : List (List ℕ)) (given : 
   pub keeps : Keeps given all
   pub have : AllByRecursion (IsGiven all) wanted
 
--- a word of a name, with a value of its kind
-sample_option : OptionName → Bool → Written
-sample_option n j = record { option = record { name = n; value = codes "10" }; joined = j }
+-- a value that fits a kind, and how it stands
+sample_value : ValueKind → List ℕ
+sample_value Flag = []
+sample_value _ = codes "10"
+
+sample_manner : ValueKind → Manner
+sample_manner Flag = Alone
+sample_manner _ = Joined
+
+sample_fits : (k : ValueKind) → Fits (sample_manner k) k (sample_value k)
+unfolding sample_value sample_manner
+sample_fits Plain = sample Plain (λ e. cc)
+sample_fits Number = sample Number (λ e. cc)
+sample_fits Count = sample Count (λ e. cc)
+sample_fits Span = sample Span (λ e. cc)
+sample_fits Entries = sample Entries (λ e. cc)
+sample_fits Weights = sample Weights (λ e. cc)
+sample_fits Flag = (refl, refl)
+
+-- an option of a name
+sample_option : OptionName → Written
+sample_option n = record { option = record { name = n; value = sample_value (kind_of n) }; manner = sample_manner (kind_of n) }
 
 with_name : (names : List OptionName) (words : List (List ℕ)) (given : List Given) (n : OptionName) → AreOptions names words given →
     is_among n names ≡ true → (o : Option (List ℕ)) → value_of n given ≡ o → CanHave names words given (n ∷ [])
@@ -89,13 +124,15 @@ with_name names words given n are among (Some v) some = record {
   keeps = λ m is. is;
   have = ((v, some), tt);
 }
-with_name names words given n are among None none = record {
-  more = option_words (sample_option n true);
-  all = given ++ record { name = n; value = codes "10" } ∷ [];
-  are = option_more names words given (sample_option n true) are (record { known = among; value = sample (kind_of n) }) none;
-  keeps = λ m is. (is.0, value_of_kept m given (record { name = n; value = codes "10" }) is.0 is.1);
-  have = ((codes "10", value_of_more given (record { name = n; value = codes "10" }) none), tt);
-}
+with_name names words given n are among None none =
+    let w = sample_option n in
+    record {
+      more = option_words w;
+      all = given ++ w.option ∷ [];
+      are = option_more names words given w are (record { known = among; fits = sample_fits (kind_of n) }) none;
+      keeps = λ m is. (is.0, value_of_kept m given w.option is.0 is.1);
+      have = ((w.option.value, value_of_more given w.option none), tt);
+    }
 
 -- options can go on until they have all names that are wanted
 pub with_names : (names : List OptionName) (wanted : List OptionName) → AllByRecursion (λ n. is_among n names ≡ true) wanted →
@@ -128,14 +165,14 @@ record Next (names : List OptionName) (given : List Given) (behind : List (List 
   pub first : Written
   pub rest : List Written
   pub words_are : behind ≡ option_words first ++ flat_map option_words rest
-  pub valid : IsOptionOf names first.option
+  pub valid : IsOptionOf names first
   pub none : value_of first.option.name given ≡ None
 
 -- words that are options behind others begin with one of another name
 next_given : (names : List OptionName) (words : List (List ℕ)) (given all : List Given) (word : List ℕ) (more : List (List ℕ)) →
     AreOptions names words given → AreOptions names (words ++ word ∷ more) all → Next names given (word ∷ more)
 next_given names words given all word more are whole =
-    let behind = behind_written are.written whole.written (word ∷ more) (ap (λ ws. ws ++ word ∷ more) (sym are.words_are) ∙ whole.words_are) in
+    let behind = behind_written names are.written whole.written (word ∷ more) are.each whole.each (ap (λ ws. ws ++ word ∷ more) (sym are.words_are) ∙ whole.words_are) in
     step behind.0 behind.1 behind.2
   where
     step : (rest : List Written) → whole.written ≡ are.written ++ rest → word ∷ more ≡ flat_map option_words rest → Next names given (word ∷ more)
@@ -146,7 +183,7 @@ next_given names words given all word more are whole =
         ∙ map-append (λ (v : Written). v.option) are.written (w ∷ rest)
         ∙ ap (λ gs. gs ++ w.option ∷ map (λ (v : Written). v.option) rest) (sym are.given_are)
         in
-        let each = all_back (IsOptionOf names) given _ (subst (AllByRecursion (IsOptionOf names)) all_are whole.each) in
+        let each = all_back (IsOptionOf names) are.written (w ∷ rest) (subst (AllByRecursion (IsOptionOf names)) split whole.each) in
         let once : times_given w.option.name (given ++ w.option ∷ map (λ (v : Written). v.option) rest) ≤ 1 =
         subst (λ gs. times_given w.option.name gs ≤ 1) all_are (whole.once w.option.name)
         in
@@ -157,22 +194,19 @@ pub record BeginsNone (names : List OptionName) (word : List ℕ) (given : List 
   pub alone : (n : OptionName) → is_among n names ≡ true → value_of n given ≡ None → word ≢ name_text n
   pub joined : (n : OptionName) (v : List ℕ) → is_among n names ≡ true → value_of n given ≡ None → IsValueOf (kind_of n) v → word ≢ name_text n ++ 61 ∷ v
 
--- the first word of an option
-first_word : (n : OptionName) (v : List ℕ) (j : Bool) (word : List ℕ) (more rest : List (List ℕ)) →
-    word ∷ more ≡ option_words (record { option = record { name = n; value = v }; joined = j }) ++ rest →
-    (word ≡ name_text n ++ 61 ∷ v) ⊎ ((word ≡ name_text n) × (more ≡ v ∷ rest))
-first_word n v true word more rest is = inl cc
-first_word n v false word more rest is = inr (cc, cc)
+none_first : (names : List OptionName) (word : List ℕ) (more rest : List (List ℕ)) (given : List Given) (n : OptionName) (v : List ℕ) (j : Manner) →
+    BeginsNone names word given → is_among n names ≡ true → value_of n given ≡ None → Fits j (kind_of n) v →
+    word ∷ more ≡ words_by j (name_text n) v ++ rest → ⊥
+none_first names word more rest given n v Joined begins among none fits is = begins.joined n v among none fits cc
+none_first names word more rest given n v Apart begins among none fits is = begins.alone n among none cc
+none_first names word more rest given n v Alone begins among none fits is = begins.alone n among none cc
 
 none_begins : (names : List OptionName) (word : List ℕ) (more : List (List ℕ)) (words : List (List ℕ)) (given all : List Given) →
     AreOptions names words given → BeginsNone names word given → AreOptions names (words ++ word ∷ more) all → ⊥
 none_begins names word more words given all are none whole =
     let next = next_given names words given all word more are whole in
     let w = next.first in
-    elim (first_word w.option.name w.option.value w.joined word more (flat_map option_words next.rest) next.words_are) [
-      | inl joined ↦ none.joined w.option.name w.option.value next.valid.known next.none next.valid.value joined
-      | inr alone ↦ none.alone w.option.name next.valid.known next.none alone.0
-    ]
+    none_first names word more (flat_map option_words next.rest) given w.option.name w.option.value w.manner none next.valid.known next.none next.valid.fits next.words_are
 
 -- a word that begins no option is refused
 pub refused_word : (names : List OptionName) (words : List (List ℕ)) (place : ℕ) (given : List Given) (word : List ℕ) → AreOptions names (take place words) given →
@@ -185,12 +219,17 @@ refused_word names words place given word are is none =
     none_begins names w more (take place words) given front.0 are (subst (λ x. BeginsNone names x given) same none) front.1)
     (λ end whole. absurd (omega arith))
 
--- a name that stands alone, without a value behind it
+-- the option of a name is no flag, and has its value behind it
+alone_first : (n m : OptionName) (v : List ℕ) (j : Manner) (more rest : List (List ℕ)) → kind_of n ≢ Flag → Fits j (kind_of m) v →
+    name_text n ∷ more ≡ words_by j (name_text m) v ++ rest → (n ≡ m) × (more ≡ v ∷ rest) × IsValueOf (kind_of m) v
+alone_first n m v Joined more rest taken fits is = absurd (alone_isn't_joined n m v cc)
+alone_first n m v Apart more rest taken fits is = (name_from_text n m cc, cc, fits)
+alone_first n m v Alone more rest taken fits is = absurd (taken (ap kind_of (name_from_text n m cc) ∙ fits.0))
+
+-- a name that takes a value, without one behind it
 pub refused_value : (names : List OptionName) (words : List (List ℕ)) (place : ℕ) (given : List Given) (n : OptionName) → AreOptions names (take place words) given →
-    is_among n names ≡ true → slice_get words place ≡ Some (name_text n) → value_of n given ≡ None →
-    ((word : List ℕ) → slice_get words (place + 1) ≡ Some word → IsValueOf (kind_of n) word → ⊥) →
+    is_among n names ≡ true → slice_get words place ≡ Some (name_text n) → value_of n given ≡ None → HasNoValue n words (place + 1) →
     IsRefusedBy (OfOptions names) words (place + 1)
-unfolding sample_option
 refused_value names words place given n are among is none no_value =
     let inside = slice_get_within words place (name_text n) is in
     let word : get_or words place [] ≡ name_text n = get_or_from_slice_get words place (name_text n) [] is in
@@ -201,7 +240,7 @@ refused_value names words place given n are among is none no_value =
     (λ w more at whole.
     value_behind (take place words) are whole.0 (w ∷ more)
     (subst (λ ws. AreOptions names ws whole.0) (ap (λ ws. ws ++ w ∷ more) front ∙ append_assoc (take place words) (name_text n ∷ []) (w ∷ more)) whole.1)
-    (λ m v rest name same valid. no_value v (at ∙ (let e : w ≡ v = cc in ap Some e)) (subst (λ k. IsValueOf (kind_of k) v) (sym name) valid)))
+    (λ m v rest name same valid. no_value.none v (at ∙ (let e : w ≡ v = cc in ap Some e), subst (λ k. IsValueOf (kind_of k) v) (sym name) valid)))
     (λ end whole.
     let all : words ≡ take place words ++ name_text n ∷ [] = sym (take_all_words words (place + 1) end) ∙ front in
     value_behind (take place words) are whole.0 []
@@ -210,10 +249,11 @@ refused_value names words place given n are among is none no_value =
     take_all_words : (words : List (List ℕ)) (k : ℕ) → k ≡ length words → take k words ≡ words
     take_all_words words k e = ap (λ k. take k words) e ∙ take-length words
 
-    -- a name that stands alone goes on with a value
+    -- a name goes on with a value
     name_front : (some : List (List ℕ)) → AreOptions names some given → IsFront (OfOptions names) (some ++ name_text n ∷ [])
     name_front some are =
-        let more = option_more names some given (sample_option n false) are (record { known = among; value = sample (kind_of n) }) none in
+        let w : Written = record { option = record { name = n; value = codes "10" }; manner = Apart } in
+        let more = option_more names some given w are (record { known = among; fits = sample (kind_of n) no_value.wanted }) none in
         (codes "10" ∷ [], (_, subst (λ ws. AreOptions names ws (given ++ record { name = n; value = codes "10" } ∷ [])) (sym (append_assoc some (name_text n ∷ []) (codes "10" ∷ []))) more))
 
     value_behind : (some : List (List ℕ)) → AreOptions names some given →
@@ -222,15 +262,13 @@ refused_value names words place given n are among is none no_value =
     value_behind some are all more whole never =
         let next = next_given names some given all (name_text n) more are whole in
         let w = next.first in
-        elim (first_word w.option.name w.option.value w.joined (name_text n) more (flat_map option_words next.rest) next.words_are) [
-          | inl joined ↦ alone_isn't_joined n w.option.name w.option.value joined
-          | inr alone ↦ never w.option.name w.option.value (flat_map option_words next.rest) (name_from_text n w.option.name alone.0) alone.1 next.valid.value
-        ]
+        let first = alone_first n w.option.name w.option.value w.manner more (flat_map option_words next.rest) no_value.wanted next.valid.fits next.words_are in
+        never w.option.name w.option.value (flat_map option_words next.rest) first.0 first.1 first.2
 
 -- words are options in one way
 pub options_once : (names : List OptionName) (words : List (List ℕ)) (given all : List Given) → AreOptions names words given → AreOptions names words all → given ≡ all
 options_once names words given all a b =
-    let behind = behind_written a.written b.written [] (append-nil (flat_map option_words a.written) ∙ sym a.words_are ∙ b.words_are) in
+    let behind = behind_written names a.written b.written [] a.each b.each (append-nil (flat_map option_words a.written) ∙ sym a.words_are ∙ b.words_are) in
     let nothing = no_written behind.0 behind.2 in
     let same : b.written ≡ a.written = behind.1 ∙ ap (λ ws. a.written ++ ws) nothing ∙ append-nil a.written in
     a.given_are ∙ ap (map (λ (w : Written). w.option)) (sym same) ∙ sym b.given_are
@@ -284,35 +322,46 @@ pub none_from_is_some : {A : Type 0} (o : Option A) → is_some o ≡ false → 
 none_from_is_some None none = refl
 none_from_is_some (Some x) none = cc
 
+step_in_one : (names : List OptionName) (words : List (List ℕ)) (place : ℕ) (old new : List GivenOption) (w : Written) (word : List ℕ) →
+    AreOptions names (take place words) (given_by old) → IsOptionOf names w → slice_get words place ≡ Some word →
+    value_of w.option.name (given_by old) ≡ None → given_by new ≡ given_by old ++ w.option ∷ [] → option_words w ≡ word ∷ [] →
+    IsStep names words place (place + 1) new
+step_in_one names words place old new w word are valid is none put alone =
+    let inside = slice_get_within words place word is in
+    let more = option_more names (take place words) (given_by old) w are valid none in
+    let split = take_more words place [] inside ∙ ap (λ x. take place words ++ x ∷ []) (get_or_from_slice_get words place _ [] is) in
+    record {
+      further = omega arith;
+      within = omega arith;
+      read = subst (λ ws. AreOptions names ws (given_by new)) (ap (λ ws. take place words ++ ws) alone ∙ sym split) (subst (AreOptions names (take place words ++ option_words w)) (sym put) more);
+    }
+
 -- one option more, in one word
 pub step_joined : (names : List OptionName) (words : List (List ℕ)) (place : ℕ) (old new : List GivenOption) (n : OptionName) (value : List ℕ) →
     AreOptions names (take place words) (given_by old) → is_among n names ≡ true → slice_get words place ≡ Some (name_text n ++ 61 ∷ value) →
     value_of n (given_by old) ≡ None → IsValueOf (kind_of n) value → given_by new ≡ given_by old ++ record { name = n; value = value } ∷ [] →
     IsStep names words place (place + 1) new
 step_joined names words place old new n value are among is none valid put =
-    let inside = slice_get_within words place (name_text n ++ 61 ∷ value) is in
-    let more = option_more names (take place words) (given_by old) (record { option = record { name = n; value = value }; joined = true }) are (record { known = among; value = valid }) none in
-    let split = take_more words place [] inside ∙ ap (λ w. take place words ++ w ∷ []) (get_or_from_slice_get words place _ [] is) in
-    record {
-      further = omega arith;
-      within = omega arith;
-      read = subst (λ ws. AreOptions names ws (given_by new)) (sym split) (subst (AreOptions names (take place words ++ (name_text n ++ 61 ∷ value) ∷ [])) (sym put) more);
-    }
+    step_in_one names words place old new (record { option = record { name = n; value = value }; manner = Joined }) _ are (record { known = among; fits = valid }) is none put refl
 
--- one option more, in two words
-pub step_apart : (names : List OptionName) (words : List (List ℕ)) (place : ℕ) (old new : List GivenOption) (n : OptionName) (value : List ℕ) →
+-- one option more, whose name is the word at a place
+pub step_named : (names : List OptionName) (words : List (List ℕ)) (place behind : ℕ) (old new : List GivenOption) (n : OptionName) (value : List ℕ) →
     AreOptions names (take place words) (given_by old) → is_among n names ≡ true → slice_get words place ≡ Some (name_text n) →
-    slice_get words (place + 1) ≡ Some value →
-    value_of n (given_by old) ≡ None → IsValueOf (kind_of n) value → given_by new ≡ given_by old ++ record { name = n; value = value } ∷ [] →
-    IsStep names words place (place + 2) new
-step_apart names words place old new n value are among is next none valid put =
+    HasValue n words (place + 1) behind value →
+    value_of n (given_by old) ≡ None → given_by new ≡ given_by old ++ record { name = n; value = value } ∷ [] →
+    IsStep names words place behind new
+step_named names words place behind old new n value are among is (inl flag) none put =
+    subst (λ b. IsStep names words place b new) (sym flag.1)
+    (step_in_one names words place old new (record { option = record { name = n; value = value }; manner = Alone }) _ are (record { known = among; fits = (flag.0, flag.2) }) is none put refl)
+step_named names words place behind old new n value are among is (inr found) none put =
     let inside = slice_get_within words place (name_text n) is in
-    let inside_next = slice_get_within words (place + 1) value next in
-    let more = option_more names (take place words) (given_by old) (record { option = record { name = n; value = value }; joined = false }) are (record { known = among; value = valid }) none in
+    let inside_next = slice_get_within words (place + 1) value found.0.0 in
+    let more = option_more names (take place words) (given_by old) (record { option = record { name = n; value = value }; manner = Apart }) are (record { known = among; fits = found.0.1 }) none in
     let split = take_more words place [] inside ∙ ap (λ w. take place words ++ w ∷ []) (get_or_from_slice_get words place _ [] is) in
-    let second = take_more words (place + 1) [] inside_next ∙ ap (λ w. take (place + 1) words ++ w ∷ []) (get_or_from_slice_get words (place + 1) _ [] next) in
-    let both : take (place + 2) words ≡ take place words ++ name_text n ∷ value ∷ [] =
-    ap (λ k. take k words) (sym (let two : place + 1 + 1 ≡ place + 2 = omega arith in two)) ∙ second ∙ ap (λ ws. ws ++ value ∷ []) split ∙ append_assoc (take place words) (name_text n ∷ []) (value ∷ []) in
+    let second = take_more words (place + 1) [] inside_next ∙ ap (λ w. take (place + 1) words ++ w ∷ []) (get_or_from_slice_get words (place + 1) _ [] found.0.0) in
+    let at_end = found.1 in
+    let both : take behind words ≡ take place words ++ name_text n ∷ value ∷ [] =
+    ap (λ k. take k words) at_end ∙ second ∙ ap (λ ws. ws ++ value ∷ []) split ∙ append_assoc (take place words) (name_text n ∷ []) (value ∷ []) in
     record {
       further = omega arith;
       within = omega arith;

@@ -1,12 +1,12 @@
 -- Values of options: durations have one length, and each kind has a value.
-use Rattle.std.proofs.Common.{◌≡◌, ◌<◌, ◌∙◌, ◌∷◌, [], inl, inr, ℕ, List, length, true, false, arith, lit<, lit≤, refl, ap, sym, subst}
+use Rattle.std.proofs.Common.{◌≡◌, ◌≢◌, ◌<◌, ◌∙◌, ◌∷◌, [], inl, inr, ℕ, List, length, true, false, arith, lit<, lit≤, refl, ap, sym, subst}
 use Rattle.std.specs.Prelude.{◌/◌, ◌^◌, Bool, IsTrue, MatchOption, None, Option, Some, codes, is_some, sum_by}
 use Rattle.ld_num.specs.Duration.{HaveLength, IsDuration, IsDurationRefusal, IsNumber, Term, milliseconds, term_length}
 use Rattle.ld_num.specs.declared.fault.NumFault.{NumFault}
 use Rattle.ld_num.proofs.DurationLemmas.{none_of_empty, not_refused_duration, one_duration}
 use Rattle.ld_words.specs.Values.{IsSpan, IsValueOf}
 use Rattle.ld_words.specs.declared.value.ValueKind.{ValueKind}
-use Rattle.ld_words.specs.declared.value.ValueKind.TheVariants.{Plain, Number, Span, Entries}
+use Rattle.ld_words.specs.declared.value.ValueKind.TheVariants.{Plain, Number, Count, Span, Entries, Weights, Flag}
 
 -- a text is a duration of one length
 pub length_once : (text : List ℕ) (ts us : List Term) (m n : ℕ) → IsDuration text ts → HaveLength ts m →
@@ -52,12 +52,15 @@ ten_span = record {
   some = omega arith;
 }
 
--- `10` is a value of each kind
-pub sample : (k : ValueKind) → IsValueOf k (codes "10")
-sample Plain = refl
-sample Number = (10, refl)
-sample Span = (10000000, ten_span)
-sample Entries = (10, record { is = refl; enough = omega arith; few = omega arith })
+-- `10` is a value of each kind but a flag
+pub sample : (k : ValueKind) → k ≢ Flag → IsValueOf k (codes "10")
+sample Plain taken = refl
+sample Number taken = (10, refl)
+sample Count taken = (10, record { is = refl; enough = omega arith; few = omega arith })
+sample Span taken = (10000000, ten_span)
+sample Entries taken = (10, record { is = refl; enough = omega arith; few = omega arith })
+sample Weights taken = (10 ∷ [], inr refl)
+sample Flag taken = absurd (taken refl)
 
 -- what the reading of a span says of a text
 pub span_test : (kind : ValueKind) (text : List ℕ) (read : Option ℕ) (some : Bool) → kind ≡ Span → some ≡ is_some read →

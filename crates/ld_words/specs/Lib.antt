@@ -1,7 +1,13 @@
+pub mod Meaning
 pub mod Form
+pub mod Forms
 pub mod Number
 pub mod Options
 pub mod OptionWords
+pub mod Parsed
 pub mod RateTest
+pub mod Syntax
+pub mod Taken
 pub mod Values
+pub mod Weights
 pub mod Words

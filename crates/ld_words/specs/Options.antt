@@ -1,5 +1,5 @@
 -- Options among the words of a command line.
-use Rattle.std.specs.Prelude.{◌≡◌, ◌≤◌, ℕ, Bool, true, List, [], ◌∷◌, ◌++◌, Option, codes, count_by, find, map, if◌then◌else◌}
+use Rattle.std.specs.Prelude.{◌≡◌, ◌≤◌, ℕ, Bool, true, List, [], ◌∷◌, ◌++◌, Option, codes, count_by, find, map}
 use Rattle.std.specs.List.{AllByRecursion, flat_map, list_any}
 use Rattle.std.specs.Option.{option_map}
 use Rattle.std.specs.Str.{bytes_eq}
@@ -21,6 +21,7 @@ name_text names.Max = codes "--max"
 name_text names.Iteration = codes "--iteration"
 name_text names.Journal = codes "--journal"
 name_text names.Entries = codes "--entries"
+name_text names.List = codes "--list"
 
 -- the kind of value that an option takes
 abbrev pub kind_of : OptionName → ValueKind
@@ -34,6 +35,7 @@ kind_of names.Max = kinds.Number
 kind_of names.Iteration = kinds.Span
 kind_of names.Journal = kinds.Plain
 kind_of names.Entries = kinds.Entries
+kind_of names.List = kinds.Flag
 
 -- two names are one
 abbrev pub is_name : OptionName → OptionName → Bool
@@ -42,20 +44,29 @@ is_name a b = bytes_eq (name_text a) (name_text b)
 abbrev pub is_among : OptionName → List OptionName → Bool
 is_among name names = list_any (is_name name) names
 
--- an option as it was given
+-- an option as it was given; a flag has the empty value
 pub record Given : Type 0 where
   pub name : OptionName
   pub value : List ℕ
 
--- an option as it stands among the words: as two words, or as one with `=` between name and value
+-- how an option stands among the words: as two words, as one with `=` between name and value, or as its name
+-- alone
+pub data Manner : Type 0 where
+  Apart : Manner
+  Joined : Manner
+  Alone : Manner
+
 pub record Written : Type 0 where
   pub option : Given
-  pub joined : Bool
+  pub manner : Manner
+
+abbrev pub words_by : Manner → List ℕ → List ℕ → List (List ℕ)
+words_by Apart name value = name ∷ value ∷ []
+words_by Joined name value = (name ++ 61 ∷ value) ∷ []
+words_by Alone name value = name ∷ []
 
 abbrev pub option_words : Written → List (List ℕ)
-option_words w =
-    if w.joined then (name_text w.option.name ++ 61 ∷ w.option.value) ∷ []
-    else name_text w.option.name ∷ w.option.value ∷ []
+option_words w = words_by w.manner (name_text w.option.name) w.option.value
 
 -- the value that is given under a name, if one is
 abbrev pub value_of : OptionName → List Given → Option (List ℕ)
@@ -65,15 +76,21 @@ value_of name given = option_map (λ (g : Given). g.value) (find (λ (g : Given)
 abbrev pub times_given : OptionName → List Given → ℕ
 times_given name given = count_by (λ (g : Given). is_name name g.name) given
 
--- an option of one of these names, with a value of its kind
-pub record IsOptionOf (names : List OptionName) (g : Given) : Type 0 where
-  pub known : is_among g.name names ≡ true
-  pub value : IsValueOf (kind_of g.name) g.value
+-- a flag stands alone; any other option has a value of its kind
+abbrev pub Fits : Manner → ValueKind → List ℕ → Type 0
+Fits Apart kind value = IsValueOf kind value
+Fits Joined kind value = IsValueOf kind value
+Fits Alone kind value = (kind ≡ kinds.Flag) × (value ≡ [])
+
+-- an option of one of these names, as it may be written
+pub record IsOptionOf (names : List OptionName) (w : Written) : Type 0 where
+  pub known : is_among w.option.name names ≡ true
+  pub fits : Fits w.manner (kind_of w.option.name) w.option.value
 
 -- the words are options of these names, one behind the other in any order, and each at most once
 pub record AreOptions (names : List OptionName) (words : List (List ℕ)) (given : List Given) : Type 0 where
   pub written : List Written
   pub words_are : words ≡ flat_map option_words written
   pub given_are : given ≡ map (λ (w : Written). w.option) written
-  pub each : AllByRecursion (IsOptionOf names) given
+  pub each : AllByRecursion (IsOptionOf names) written
   pub once : (name : OptionName) → times_given name given ≤ 1

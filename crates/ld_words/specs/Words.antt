@@ -1,133 +1,94 @@
--- The words of a command line, and what they ask for.
-use Rattle.std.specs.Prelude.{◌≡◌, ◌≤◌, ◌==◌, ◌&&◌, ◌⊎◌, ℕ, Bool, false, List, [], ◌∷◌, Option, Some, IsSome, map, codes, if◌then◌else◌}
-use Rattle.std.specs.List.{list_any, slice_split}
+-- What the words of a command line ask for.
+use Rattle.std.specs.Prelude.{◌≡◌, ℕ, List, [], ◌∷◌, Option, Some, is_some}
 use Rattle.std.specs.Option.{option_and_then}
-use Rattle.std.specs.Str.{bytes_eq}
-use Rattle.ld_words.specs.Form.{Form, IsRefusal}
+use Rattle.ld_words.specs.Form.{IsRefusal}
+use Rattle.ld_words.specs.Forms.{form_of, form_read, AreWordsOf}
 use Rattle.ld_words.specs.Number.{number_of}
-use Rattle.ld_words.specs.Options.{value_of, AreOptions, Given}
-use Rattle.ld_words.specs.OptionWords.{SpanUnder}
+use Rattle.ld_words.specs.Options.{value_of, Given}
+use Rattle.ld_words.specs.Values.{IsSpan}
+use Rattle.ld_words.specs.Weights.{AreWeights}
 use Rattle.ld_words.specs.declared.fault.WordsFault.{WordsFault}
 use Rattle.ld_words.specs.declared.form.FormName.{FormName}
 use Rattle.ld_words.specs.declared.form.FormName.TheVariants as forms
 use Rattle.ld_words.specs.declared.option.OptionName.{OptionName}
-use Rattle.ld_words.specs.declared.option.OptionName.TheVariants.{Segment, Sequence, Rate, Unit, Duration, Pre, Max, Iteration, Journal, Entries}
+use Rattle.ld_words.specs.declared.option.OptionName.TheVariants as names
 use Rattle.ld_words.specs.declared.words.Words.{Words}
-use Rattle.ld_words.specs.declared.words.Words.TheVariants.{StripeWeights, StripeSegment, RehearseWords}
+use Rattle.ld_words.specs.declared.words.Words.TheVariants.{StripeWeights, StripeSegment, Plan, RehearseTest, RehearseWords, Help}
 
--- ---- weights
+-- the number that is given under a name, if one is
+abbrev pub number_under : OptionName → List Given → Option ℕ
+number_under name given = option_and_then number_of (value_of name given)
 
--- the parts of a text between its commas
-abbrev pub parts_of : List ℕ → List (List ℕ)
-parts_of text = slice_split (λ b. b == 44) text
+-- the duration that is given under a name
+abbrev pub SpanUnder : OptionName → List Given → ℕ → Type 0
+SpanUnder name given nanoseconds = (text : List ℕ) × (value_of name given ≡ Some text) × IsSpan text nanoseconds
 
--- weights are an empty word, or numbers joined by commas
-abbrev pub AreWeights : List ℕ → List ℕ → Type 0
-AreWeights text weights = ((text ≡ []) × (weights ≡ [])) ⊎ (map number_of (parts_of text) ≡ map Some weights)
-
--- the greatest number of indices that are looked at
-abbrev pub most_indices : ℕ
-most_indices = 1000000
-
--- ---- commands
-
--- the options that each form has
-abbrev pub options_of : FormName → List OptionName
-options_of forms.StripeWeights = []
-options_of forms.StripeSegment = Segment ∷ Sequence ∷ []
-options_of forms.RehearseWords = Rate ∷ Unit ∷ Duration ∷ Pre ∷ Max ∷ Iteration ∷ Journal ∷ Entries ∷ []
-
--- the words are `stripe` with these weights, this position and this number of indices
-pub record AskForWeights (words : List (List ℕ)) (weights : List ℕ) (position count : ℕ) : Type 0 where
+-- weights, a position among them, and a number of indices
+pub record AreWeightsAsked (places : List (List ℕ)) (weights : List ℕ) (position count : ℕ) : Type 0 where
   pub weights_word : List ℕ
   pub position_word : List ℕ
   pub count_word : List ℕ
-  pub words_are : words ≡ codes "stripe" ∷ weights_word ∷ position_word ∷ count_word ∷ []
+  pub places_are : places ≡ weights_word ∷ position_word ∷ count_word ∷ []
   pub weights_are : AreWeights weights_word weights
   pub position_is : number_of position_word ≡ Some position
   pub count_is : number_of count_word ≡ Some count
-  pub count_small : count ≤ most_indices
 
--- the words are `stripe` with this number of indices, and with a segment, a sequence, or both
-pub record AskForSegment (words : List (List ℕ)) (count : ℕ) (segment sequence : Option (List ℕ)) : Type 0 where
+-- a number of indices, and how they are cut
+pub record IsCutAsked (places : List (List ℕ)) (given : List Given) (count : ℕ) (segment sequence : Option (List ℕ)) : Type 0 where
   pub count_word : List ℕ
-  pub option_words : List (List ℕ)
-  pub given : List Given
-  pub words_are : words ≡ codes "stripe" ∷ count_word ∷ option_words
+  pub places_are : places ≡ count_word ∷ []
   pub count_is : number_of count_word ≡ Some count
-  pub count_small : count ≤ most_indices
-  pub options_are : AreOptions (options_of forms.StripeSegment) option_words given
-  pub segment_is : segment ≡ value_of Segment given
-  pub sequence_is : sequence ≡ value_of Sequence given
-  pub some : IsSome segment ⊎ IsSome sequence
+  pub segment_is : segment ≡ value_of names.Segment given
+  pub sequence_is : sequence ≡ value_of names.Sequence given
 
--- the options give this rate in each unit of time, for so long, with so many users and so long iterations
-pub record ArePace (given : List Given) (rate unit duration pre max iteration : ℕ) : Type 0 where
-  pub rate_is : option_and_then number_of (value_of Rate given) ≡ Some rate
-  pub unit_is : SpanUnder Unit given unit
-  pub duration_is : SpanUnder Duration given duration
-  pub pre_is : option_and_then number_of (value_of Pre given) ≡ Some pre
-  pub max_is : option_and_then number_of (value_of Max given) ≡ Some max
-  pub iteration_is : SpanUnder Iteration given iteration
+-- a test, how it is cut, and how many entries a journal of it may have
+pub record IsTestAsked (places : List (List ℕ)) (given : List Given) (test : List ℕ) (segment sequence : Option (List ℕ)) (entries : Option ℕ) : Type 0 where
+  pub places_are : places ≡ test ∷ []
+  pub segment_is : segment ≡ value_of names.Segment given
+  pub sequence_is : sequence ≡ value_of names.Sequence given
+  pub entries_is : entries ≡ number_under names.Entries given
 
--- the words are `rehearse` with options that give this pace and this journal, and maybe a number of entries
-pub record AskForRehearsal (words : List (List ℕ)) (rate unit duration pre max iteration : ℕ) (journal : List ℕ) (entries : Option ℕ) : Type 0 where
-  pub option_words : List (List ℕ)
-  pub given : List Given
-  pub words_are : words ≡ codes "rehearse" ∷ option_words
-  pub options_are : AreOptions (options_of forms.RehearseWords) option_words given
-  pub pace : ArePace given rate unit duration pre max iteration
-  pub journal_is : value_of Journal given ≡ Some journal
-  pub entries_is : entries ≡ option_and_then number_of (value_of Entries given)
+-- how long each iteration takes, and the journal of a rehearsal
+pub record IsPlayAsked (given : List Given) (iteration : ℕ) (journal : List ℕ) : Type 0 where
+  pub iteration_is : SpanUnder names.Iteration given iteration
+  pub journal_is : value_of names.Journal given ≡ Some journal
 
--- what the words of each form ask for
-abbrev pub AskFor : List (List ℕ) → Words → Type 0
-AskFor words (StripeWeights weights position count) = AskForWeights words weights position count
-AskFor words (StripeSegment count segment sequence) = AskForSegment words count segment sequence
-AskFor words (RehearseWords rate unit duration pre max iteration journal entries) =
-    AskForRehearsal words rate unit duration pre max iteration journal entries
+-- the rate in each unit of time, for how long, and by how many users
+pub record IsPaceAsked (given : List Given) (rate unit duration pre max : ℕ) : Type 0 where
+  pub rate_is : number_under names.Rate given ≡ Some rate
+  pub unit_is : SpanUnder names.Unit given unit
+  pub duration_is : SpanUnder names.Duration given duration
+  pub pre_is : number_under names.Pre given ≡ Some pre
+  pub max_is : number_under names.Max given ≡ Some max
+
+-- what the values at the places and the options of a form ask for
+abbrev pub IsMeant : List (List ℕ) → List Given → Words → Type 0
+IsMeant places given (StripeWeights weights position count) = AreWeightsAsked places weights position count
+IsMeant places given (StripeSegment count segment sequence) = IsCutAsked places given count segment sequence
+IsMeant places given (Plan test segment sequence entries listed) =
+    IsTestAsked places given test segment sequence entries × (listed ≡ is_some (value_of names.List given))
+IsMeant places given (RehearseTest test iteration journal segment sequence entries) =
+    IsTestAsked places given test segment sequence entries × IsPlayAsked given iteration journal
+IsMeant places given (RehearseWords rate unit duration pre max iteration journal entries) =
+    IsPaceAsked given rate unit duration pre max × IsPlayAsked given iteration journal × (entries ≡ number_under names.Entries given)
+IsMeant places given Help = Unit {0}
 
 -- the form of what is asked for
 abbrev pub form_asked : Words → FormName
 form_asked (StripeWeights _ _ _) = forms.StripeWeights
 form_asked (StripeSegment _ _ _) = forms.StripeSegment
+form_asked (Plan _ _ _ _ _) = forms.Plan
+form_asked (RehearseTest _ _ _ _ _ _) = forms.RehearseTest
 form_asked (RehearseWords _ _ _ _ _ _ _ _) = forms.RehearseWords
+form_asked Help = forms.Help
 
--- ---- the form that words are read by
-
--- a word that begins with two dashes
-abbrev pub is_option_word : List ℕ → Bool
-is_option_word (a ∷ b ∷ _) = (a == 45) && (b == 45)
-is_option_word _ = false
-
-abbrev pub has_option_word : List (List ℕ) → Bool
-has_option_word words = list_any is_option_word words
-
--- the first word is this one
-abbrev pub is_command : List ℕ → List (List ℕ) → Bool
-is_command name [] = false
-is_command name (word ∷ _) = bytes_eq word name
-
--- the command names the form; whether some word begins with two dashes tells the forms of `stripe` apart,
--- and words without a command are read as `stripe` too, which refuses them at their first place
-abbrev pub form_read : List (List ℕ) → FormName
-form_read words =
-    if is_command (codes "rehearse") words then forms.RehearseWords
-    else if has_option_word words then forms.StripeSegment
-    else forms.StripeWeights
-
--- ---- what is asked for, and words that are refused
-
--- words of a form: they ask for something of it
-pub record AsksBy (form : FormName) (words : List (List ℕ)) (request : Words) : Type 0 where
-  pub form_is : form_asked request ≡ form
-  pub asks : AskFor words request
-
-abbrev pub Asks : List (List ℕ) → Words → Type 0
-Asks words request = AsksBy (form_read words) words request
-
-abbrev pub form_of : FormName → Form
-form_of form words = (request : Words) × AsksBy form words request
+-- the words ask for this: they are words of the form that they are read by, and mean this
+pub record Asks (words : List (List ℕ)) (request : Words) : Type 0 where
+  pub form_is : form_asked request ≡ form_read words
+  pub places : List (List ℕ)
+  pub given : List Given
+  pub words_are : AreWordsOf (form_read words) words places given
+  pub meant : IsMeant places given request
 
 -- the words are refused with this fault
 abbrev pub IsRefused : List (List ℕ) → WordsFault → Type 0

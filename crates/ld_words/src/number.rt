@@ -1,19 +1,11 @@
 // Numbers among the words of a command line.
-ghost use Rattle.std.specs.Prelude.{◌≡◌, map, slice_get, string_bytes};
+ghost use Rattle.std.specs.Prelude.{◌≡◌};
 ghost use Rattle.std.specs.Char.{is_ascii_digit};
 ghost use Rattle.std.specs.List.{list_all};
-ghost use Rattle.std.specs.Option.{option_and_then};
 ghost use Rattle.ld_words.specs.Number.{is_number, number_of};
 
 /// The greatest number of digits of a number.
 const MOST_DIGITS: usize = 9;
-
-// The number that the word at a place is, if it is there and is one.
-pub fn number_at(words: &[String], place: usize) -> Option<u32>
-    ensures { result ≡ option_and_then number_of (slice_get (map string_bytes words.now) place) }
-{
-    read_number(words.get(place)?.as_str())
-}
 
 // The value of a word that is a number: one to nine decimal digits.
 pub fn read_number(word: &str) -> Option<u32>

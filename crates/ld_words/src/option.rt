@@ -2,6 +2,7 @@
 ghost use Rattle.std.specs.Prelude.{◌≡◌, ◌≢◌, true, MatchOption};
 ghost use Rattle.ld_words.specs.Options.{is_among, kind_of, name_text};
 ghost use Rattle.ld_words.specs.OptionWords.{IsOptionWord};
+ghost use Rattle.ld_words.specs.Taken.{is_flag};
 ghost use Rattle.ld_words.specs.declared.option.OptionName.{OptionName};
 
 use crate::value::ValueKind;
@@ -29,6 +30,8 @@ pub enum OptionName {
     Journal,
     /// `--entries`: how many entries a journal may have.
     Entries,
+    /// `--list`: the moments of all arrivals too. It takes no value.
+    List,
 }
 
 impl OptionName {
@@ -47,6 +50,7 @@ impl OptionName {
             OptionName::Iteration => "--iteration",
             OptionName::Journal => "--journal",
             OptionName::Entries => "--entries",
+            OptionName::List => "--list",
         }
     }
 
@@ -59,7 +63,15 @@ impl OptionName {
             OptionName::Rate | OptionName::Pre | OptionName::Max => ValueKind::Number,
             OptionName::Unit | OptionName::Duration | OptionName::Iteration => ValueKind::Span,
             OptionName::Entries => ValueKind::Entries,
+            OptionName::List => ValueKind::Flag,
         }
+    }
+
+    // Whether it takes no value.
+    pub fn is_flag(self) -> bool
+        ensures { result ≡ is_flag self }
+    {
+        matches!(self.kind(), ValueKind::Flag)
     }
 }
 

@@ -1,17 +1,16 @@
 // The options behind the positional words of a command line.
-ghost use Rattle.std.specs.Prelude.{◌≡◌, ◌≢◌, ◌<◌, ◌≤◌, true, ℕ, List, Some, MatchOption, MatchResult, drop, length, map, slice_get, string_bytes, take};
+ghost use Rattle.std.specs.Prelude.{◌≡◌, ◌≢◌, ◌<◌, ◌≤◌, ◌+◌, true, Some, MatchOption, MatchResult, drop, length, map, slice_get, string_bytes, take};
 ghost use Rattle.ld_words.specs.Form.{IsRefusal, IsRefusalBehind};
-ghost use Rattle.ld_words.specs.Options.{is_among, kind_of, name_text, AreOptions};
-ghost use Rattle.ld_words.specs.Values.{IsValueOf};
-ghost use Rattle.ld_words.specs.OptionWords.{given_by, IsStep, OfOptions};
-ghost use Rattle.ld_words.specs.Words.{options_of};
+ghost use Rattle.ld_words.specs.Options.{is_among, name_text, AreOptions};
+ghost use Rattle.ld_words.specs.Forms.{options_of};
+ghost use Rattle.ld_words.specs.OptionWords.{given_by, HasNoValue, HasValue, IsStep, OfOptions};
 ghost use Rattle.ld_words.specs.declared.fault.WordsFault.{WordsFault};
 
 use crate::fault::WordsFault;
 use crate::form::FormName;
 use crate::given::{GivenOption, value_under};
 use crate::option::{OptionName, OptionWord, option_word};
-use crate::value::is_value_of;
+use crate::value::{ValueKind, is_value_of, value_at};
 use std::alloc::Global;
 
 // Reads the options of a form behind the first words.
@@ -66,7 +65,7 @@ fn read_option<'a>(
         (λ f. f ≢ WordsFault.Memory → IsRefusal (OfOptions names.now) (map string_bytes words.now) f) }
 {
     match option_word(names, words[place].as_str()) {
-        OptionWord::Name(name) => read_apart(names, words, place, name, given),
+        OptionWord::Name(name) => read_named(names, words, place, name, given),
         OptionWord::Joined(name, value) => {
             if value_under(given, name).is_some() || !is_value_of(name.kind(), value) {
                 return Err(WordsFault::Refused(place));
@@ -80,8 +79,8 @@ fn read_option<'a>(
     }
 }
 
-// Reads an option whose name stands alone at a place, with its value behind it.
-fn read_apart<'a>(
+// Reads an option whose name is the word at a place, with its value behind it if it takes one.
+fn read_named<'a>(
     names: &[OptionName],
     words: &'a [String],
     place: usize,
@@ -99,25 +98,40 @@ fn read_apart<'a>(
     if value_under(given, name).is_some() {
         return Err(WordsFault::Refused(place));
     }
-    let Some(value) = value_at(name, words, place + 1) else {
+    let Some(found) = value_behind(name, words, place) else {
         return Err(WordsFault::Refused(place + 1));
     };
+    let value = found.value;
     let Ok(()) = given.push(GivenOption { name, value }) else {
         return Err(WordsFault::Memory);
     };
-    Ok(place + 2)
+    Ok(found.behind)
 }
 
-// The value of an option that the word at a place is, if it is there and is one.
-fn value_at<'a>(name: OptionName, words: &'a [String], place: usize) -> Option<&'a str>
+// The value of an option behind its name, and the place behind that.
+#[derive(Clone, Copy)]
+struct ValueBehind<'a> {
+    value: &'a str,
+    behind: usize,
+}
+
+// The value of an option whose name is the word at a place; a flag's is empty.
+fn value_behind<'a>(name: OptionName, words: &'a [String], place: usize) -> Option<ValueBehind<'a>>
+    requires within { place < length words.now }
+    requires name { slice_get (map string_bytes words.now) place ≡ Some (name_text name) }
     ensures { MatchOption result
-        ((word : List ℕ) → slice_get (map string_bytes words.now) place ≡ Some word → IsValueOf (kind_of name) word → ⊥)
-        (λ value. (slice_get (map string_bytes words.now) place ≡ Some value.now) × IsValueOf (kind_of name) value.now) }
+        (HasNoValue name (map string_bytes words.now) (place + 1))
+        (λ found. HasValue name (map string_bytes words.now) (place + 1) found.behind found.value.now) }
 {
-    let word = words.get(place)?.as_str();
-    if is_value_of(name.kind(), word) {
-        Some(word)
-    } else {
-        None
+    let kind = name.kind();
+    match kind {
+        ValueKind::Flag => Some(ValueBehind {
+            value: "",
+            behind: place + 1,
+        }),
+        _ => Some(ValueBehind {
+            value: value_at(kind, words, place + 1)?,
+            behind: place + 2,
+        }),
     }
 }

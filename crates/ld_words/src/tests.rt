@@ -12,52 +12,140 @@ fn split(alloc: Global, line: &str) -> Result<Vec<String>, Fail> {
     Ok(list)
 }
 
-/// Words that are refused, each at its place.
+/// Words of `stripe` that are refused, each at its place.
 #[test]
-fn words_are_refused(rt: HostRuntime) -> Result<(), Fail> {
+fn stripes_are_refused(rt: HostRuntime) -> Result<(), Fail> {
     let table = [
-        ("", 0),
         ("strip 1 0 1", 0),
-        ("_", 0),
-        ("--help", 0),
-        ("--version", 0),
-        ("--segment=1 stripe", 0),
+        ("stripes 1 0 1", 0),
+        ("_ 1 0 1", 0),
         ("stripe", 1),
         ("stripe x 0 5", 1),
         ("stripe 1,,1 0 5", 1),
         ("stripe 1, 0 5", 1),
         ("stripe , 0 5", 1),
+        ("stripe -1 0 5", 1),
         ("stripe 1234567890 0 5", 1),
+        ("stripe 1,1234567890 0 5", 1),
         ("stripe _", 2),
         ("stripe 1 +1 5", 2),
         ("stripe 1 _ 5", 2),
+        ("stripe 1 -1 5", 2),
+        ("stripe 1 1234567890 5", 2),
+        ("stripe 1 1,1 5", 2),
         ("stripe 1 0", 3),
         ("stripe 1 0 1000001", 3),
         ("stripe 1 0 -1", 3),
+        ("stripe 1 0 _", 3),
+        ("stripe 1 0 1,1", 3),
         ("stripe 1 0 5 6", 4),
         ("stripe 1 0 5 -x", 4),
+        ("stripe 1 0 5 _", 4),
+        ("--segment=1 stripe", 0),
+        ("strip 6 --segment 1", 0),
         ("stripe --segment 1", 1),
+        ("stripe x --segment 1", 1),
         ("stripe 1000001 --segment 1", 1),
+        ("stripe -6 --segment 1", 1),
         ("stripe 1,1 0 --segment 1", 1),
         ("stripe _ --segment 1", 1),
         ("stripe 6 0 --segment 1", 2),
         ("stripe 6 --", 2),
+        ("stripe 6 -- --segment 1", 2),
         ("stripe 6 --segments 1", 2),
         ("stripe 6 --segment=", 2),
         ("stripe 6 --segment=-1", 2),
         ("stripe 6 --list", 2),
+        ("stripe 6 --rate 1", 2),
+        ("stripe 6 --entries=10 --segment 1", 2),
         ("stripe 6 --segment", 3),
         ("stripe 6 --segment _", 3),
         ("stripe 6 --segment -1", 3),
+        ("stripe 6 --segment --", 3),
         ("stripe 6 --segment --sequence 0,1", 3),
+        ("stripe 6 --sequence", 3),
+        ("stripe 6 --sequence -", 3),
         ("stripe 6 --segment=1 1", 3),
+        ("stripe 6 --segment=1 --segment 1", 3),
         ("stripe 6 --segment 1 --segment 1", 4),
         ("stripe 6 --segment 1 --segment=1", 4),
         ("stripe 6 --sequence=1 --segment 1 2", 5),
         ("stripe 6 --segment 1 --sequence", 5),
         ("stripe 6 --segment 1 --sequence -", 5),
-        ("stripe 6 --segment 1 --sequence 0 --sequence 0", 6),
         ("stripe 6 --segment 1 --sequence=0 --entries 10", 5),
+        ("stripe 6 --segment 1 --sequence 0 --sequence 0", 6),
+    ];
+    for (line, place) in table {
+        let words = split(rt.alloc(), line)?;
+        match read_words(rt.alloc(), &words) {
+            Err(WordsFault::Refused(at)) => assert_eq!(rt; at, place, "{line}"),
+            _ => panic!(rt; "{line}"),
+        }
+    }
+    Ok(())
+}
+
+/// Words of `plan`, of `help` and of no command that are refused, each at its place.
+#[test]
+fn plans_are_refused(rt: HostRuntime) -> Result<(), Fail> {
+    let table = [
+        ("pla t.json", 0),
+        ("plans t.json", 0),
+        ("plan", 1),
+        ("plan _", 1),
+        ("plan -", 1),
+        ("plan --", 1),
+        ("plan --list", 1),
+        ("plan --segment 1 t.json", 1),
+        ("plan t.json u.json", 2),
+        ("plan t.json _", 2),
+        ("plan t.json -", 2),
+        ("plan t.json --", 2),
+        ("plan t.json -list", 2),
+        ("plan t.json --lists", 2),
+        ("plan t.json --iteration 1s", 2),
+        ("plan t.json --list=x", 2),
+        ("plan t.json --list=", 2),
+        ("plan t.json --segment=", 2),
+        ("plan t.json --sequence=-1", 2),
+        ("plan t.json --entries=9", 2),
+        ("plan t.json --entries=1000001", 2),
+        ("plan t.json --list x", 3),
+        ("plan t.json --list --list", 3),
+        ("plan t.json --list --list=", 3),
+        ("plan t.json --segment", 3),
+        ("plan t.json --segment _", 3),
+        ("plan t.json --segment --list", 3),
+        ("plan t.json --sequence -1", 3),
+        ("plan t.json --sequence --", 3),
+        ("plan t.json --entries", 3),
+        ("plan t.json --entries 9", 3),
+        ("plan t.json --entries x", 3),
+        ("plan t.json --segment 1 --segment 1", 4),
+        ("plan t.json --sequence 0,1 --sequence=0,1", 4),
+        ("plan t.json --segment 1 --list=1", 4),
+        ("plan t.json --segment 1 --list --list", 5),
+        ("plan t.json --entries 10 --list --entries=10", 5),
+        ("plan t.json --list --segment s --sequence", 6),
+        (
+            "plan t.json --list --segment s --entries 10 --sequence=q x",
+            8,
+        ),
+        ("", 0),
+        ("_", 0),
+        ("hel", 0),
+        ("helps", 0),
+        ("Help", 0),
+        ("--help", 0),
+        ("-h", 0),
+        ("--version", 0),
+        ("x help", 0),
+        ("help help", 1),
+        ("help _", 1),
+        ("help -", 1),
+        ("help --", 1),
+        ("help --list", 1),
+        ("help plan", 1),
     ];
     for (line, place) in table {
         let words = split(rt.alloc(), line)?;
@@ -73,14 +161,56 @@ fn words_are_refused(rt: HostRuntime) -> Result<(), Fail> {
 #[test]
 fn rehearsals_are_refused(rt: HostRuntime) -> Result<(), Fail> {
     let table = [
-        ("rehears --rate 2", 0),
+        ("rehears t.json", 0),
         ("rehearse", 1),
-        ("rehearse t.json", 1),
+        ("rehearse _", 1),
+        ("rehearse -", 1),
+        ("rehearse -t --iteration 1s --journal j", 1),
+        ("rehearse _ --rate 2", 1),
+        ("rehearse -rate 2", 1),
+        ("rehearse t.json", 2),
+        ("rehearse t.json u.json", 2),
+        ("rehearse t.json _", 2),
+        ("rehearse t.json -", 2),
+        ("rehearse t.json --", 2),
+        ("rehearse t.json --rate 2", 2),
+        ("rehearse t.json --list", 2),
+        ("rehearse t.json --make 3", 2),
+        ("rehearse t.json --iteration=", 2),
+        ("rehearse t.json --iteration=0s", 2),
+        ("rehearse t.json --journal=", 2),
+        ("rehearse t.json --journal=-j", 2),
+        ("rehearse t.json --segment=-", 2),
+        ("rehearse t.json --sequence=", 2),
+        ("rehearse t.json --entries=9", 2),
+        ("rehearse t.json --iteration", 3),
+        ("rehearse t.json --iteration _", 3),
+        ("rehearse t.json --iteration 0s", 3),
+        ("rehearse t.json --iteration -1s", 3),
+        ("rehearse t.json --iteration --", 3),
+        ("rehearse t.json --iteration --journal j", 3),
+        ("rehearse t.json --journal", 3),
+        ("rehearse t.json --journal -j", 3),
+        ("rehearse t.json --segment _", 3),
+        ("rehearse t.json --sequence", 3),
+        ("rehearse t.json --entries 1000001", 3),
+        ("rehearse t.json --journal=j", 3),
+        ("rehearse t.json --journal=j --journal j", 3),
+        ("rehearse t.json --iteration 1s", 4),
+        ("rehearse t.json --iteration 1s --iteration 1s", 4),
+        ("rehearse t.json --iteration 1s --iteration=1s", 4),
+        ("rehearse t.json --iteration 1s --journal", 5),
+        ("rehearse t.json --segment=s --entries=10 --iteration=1s", 5),
+        ("rehearse t.json --iteration 1s --journal j x", 6),
+        ("rehearse t.json --iteration 1s --journal j --rate 2", 6),
+        (
+            "rehearse t.json --segment 0:1/2 --sequence 0,1/2,1 --entries 10 --journal j",
+            10,
+        ),
+        ("rehears --rate 2", 0),
         ("rehearse --make 3", 1),
         ("rehearse --make=3", 1),
-        ("rehearse _ --rate 2", 1),
         ("rehearse --", 1),
-        ("rehearse -rate 2", 1),
         ("rehearse --segment 1", 1),
         ("rehearse --rate=", 1),
         ("rehearse --rate=1234567890", 1),
@@ -200,6 +330,94 @@ fn rehearsals_are_read(rt: HostRuntime) -> Result<(), Fail> {
         assert_eq!(rt; journal.as_slice(), want.6.as_bytes(), "{line}");
         assert_eq!(rt; entries, want.7, "{line}");
     }
+    Ok(())
+}
+
+/// Words of `rehearse` with a test.
+#[test]
+fn rehearsals_of_tests_are_read(rt: HostRuntime) -> Result<(), Fail> {
+    let table = [
+        (
+            "rehearse t.json --iteration 250ms --journal j",
+            ("t.json", 250_000_000, "j", "", "", None),
+        ),
+        (
+            "rehearse rehearse --entries=10 --segment=0:1/2 --journal=a=b --sequence 0,1/2,1 --iteration 1",
+            ("rehearse", 1_000_000, "a=b", "0:1/2", "0,1/2,1", Some(10)),
+        ),
+        (
+            "rehearse list --sequence==q --journal list --iteration=1m",
+            ("list", 60_000_000_000, "list", "", "=q", None),
+        ),
+    ];
+    for (line, want) in table {
+        let words = split(rt.alloc(), line)?;
+        let Words::RehearseTest {
+            test,
+            iteration,
+            journal,
+            segment,
+            sequence,
+            entries,
+        } = read_words(rt.alloc(), &words)?
+        else {
+            panic!(rt; "{line}");
+        };
+        assert_eq!(rt; test.as_slice(), want.0.as_bytes(), "{line}");
+        assert_eq!(rt; (iteration, entries), (want.1, want.5), "{line}");
+        assert_eq!(rt; journal.as_slice(), want.2.as_bytes(), "{line}");
+        check_value(&rt, &segment, want.3);
+        check_value(&rt, &sequence, want.4);
+    }
+    Ok(())
+}
+
+/// Words of `plan`, with its flag and without.
+#[test]
+fn plans_are_read(rt: HostRuntime) -> Result<(), Fail> {
+    let table = [
+        ("plan t.json", ("t.json", "", "", None, false)),
+        ("plan t.json --list", ("t.json", "", "", None, true)),
+        (
+            "plan a=b --sequence=0,1 --list --entries 10 --segment 0:1/2",
+            ("a=b", "0:1/2", "0,1", Some(10), true),
+        ),
+        (
+            "plan plan --entries=1000000 --sequence q --segment==",
+            ("plan", "=", "q", Some(1_000_000), false),
+        ),
+        (
+            "plan list --list --segment list",
+            ("list", "list", "", None, true),
+        ),
+    ];
+    for (line, want) in table {
+        let words = split(rt.alloc(), line)?;
+        let Words::Plan {
+            test,
+            segment,
+            sequence,
+            entries,
+            listed,
+        } = read_words(rt.alloc(), &words)?
+        else {
+            panic!(rt; "{line}");
+        };
+        assert_eq!(rt; test.as_slice(), want.0.as_bytes(), "{line}");
+        check_value(&rt, &segment, want.1);
+        check_value(&rt, &sequence, want.2);
+        assert_eq!(rt; (entries, listed), (want.3, want.4), "{line}");
+    }
+    Ok(())
+}
+
+/// The word `help` alone.
+#[test]
+fn help_is_read(rt: HostRuntime) -> Result<(), Fail> {
+    let words = split(rt.alloc(), "help")?;
+    let Words::Help = read_words(rt.alloc(), &words)? else {
+        panic!(rt);
+    };
     Ok(())
 }
 

@@ -1,8 +1,9 @@
 // Weights among the words of a command line.
-ghost use Rattle.std.specs.Prelude.{◌≡◌, List, ℕ, Some, IfOk, MatchOption, map};
+ghost use Rattle.std.specs.Prelude.{◌≡◌, ◌↔◌, List, ℕ, Some, IfOk, IsTrue, MatchOption, is_some, map};
 ghost use Rattle.std.specs.Borrow.{Bor};
+ghost use Rattle.std.specs.List.{list_all};
 ghost use Rattle.ld_words.specs.Number.{number_of};
-ghost use Rattle.ld_words.specs.Words.{parts_of, AreWeights};
+ghost use Rattle.ld_words.specs.Weights.{parts_of, AreWeights};
 
 use crate::number::read_number;
 use std::alloc::{AllocError, Global};
@@ -46,6 +47,20 @@ impl Weights {
             None => Ok(None),
         }
     }
+}
+
+// Whether a word is weights.
+pub fn are_weights(word: &str) -> bool
+    ensures { IsTrue result ↔ ((weights : List ℕ) × AreWeights word.now weights) }
+{
+    word.is_empty() || are_numbers(word)
+}
+
+// Whether each part of a word between its commas is a number.
+fn are_numbers(word: &str) -> bool
+    ensures { result ≡ list_all (λ part. is_some (number_of part)) (parts_of word.now) }
+{
+    word.split(',').all(|part| read_number(part).is_some())
 }
 
 // The numbers that the texts are, if each is one.

@@ -2,8 +2,8 @@ use Rattle.std.proofs.Common.{◌∙◌, rules, tests, String, Global}
 use Rattle.std.specs.Prelude.{string_bytes}
 use Rattle.std.proofs.lemmas.Iterator.{YieldsList-from_slice}
 use Rattle.std.proofs.lemmas.Iterator.Search.{any_from_yields_List}
-use Rattle.ld_words.specs.Words.{is_option_word}
-use Rattle.ld_words.proofs.WordsLemmas.{list_any-map}
+use Rattle.ld_words.specs.Forms.{is_option_word}
+use Rattle.ld_words.proofs.FormLemmas.{list_any-map}
 use Rattle.ld_words.proofs.form.has_option_word.Goals as goal
 
 pub returns : goal.returns

@@ -1,7 +1,7 @@
 use Rattle.std.proofs.Common.{◌∙◌, ap, refl, sym}
 use Rattle.std.specs.Prelude.{map, string_bytes}
 use Rattle.std.proofs.lemmas.List.{drop-map}
-use Rattle.ld_words.proofs.WordsLemmas.{options_here, refused_here}
+use Rattle.ld_words.proofs.ReaderLemmas.{options_here, refused_here}
 use Rattle.ld_words.proofs.options.options_behind.Goals as goal
 
 pub returns-in-Ok : goal.returns-in-Ok
