@@ -1,3 +1,4 @@
 mod ActLemmas
-mod ScenarioLemmas
+mod PlanTextLemmas
 mod PlannedLemmas
+mod ScenarioLemmas

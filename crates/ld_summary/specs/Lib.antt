@@ -1,4 +1,5 @@
 pub mod Counts
+pub mod PlanText
 pub mod Planned
 pub mod Summary
 pub mod Summed

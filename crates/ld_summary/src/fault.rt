@@ -5,7 +5,7 @@ use ld_base::BaseFault;
 use std::alloc::AllocError;
 use thiserror::Error;
 
-/// Why there is no summary: the only cause is want of memory.
+/// Why there is no summary, or no text of a plan: the only cause is want of memory.
 #[derive(Clone, Copy, Debug, PartialEq, Eq, Error)]
 pub enum SummaryFault {
     /// There is no memory left.

@@ -14,12 +14,29 @@ const SECOND: u64 = 1_000_000_000;
 const TEST: &[u8] =
     b"{\"options\":{\"scenarios\":{\"main\":{\"executor\":\"constant-arrival-rate\",\"rate\":10,\"timeUnit\":\"1s\",\"duration\":\"1s\",\"preAllocatedVUs\":2,\"maxVUs\":5}}},\"scripts\":{\"default\":[]}}";
 
-// The plan of three quarters of the test.
-fn plan(alloc: Global) -> Result<Plan, Fail> {
-    let options = Options::read(alloc, TEST)?;
-    let segment = Segment::read(b"1/4:1")?;
+/// Three arrivals in a second for one user.
+const THREE: &[u8] =
+    b"{\"options\":{\"scenarios\":{\"main\":{\"executor\":\"constant-arrival-rate\",\"rate\":3,\"duration\":\"1s\",\"preAllocatedVUs\":1,\"maxVUs\":1}}},\"scripts\":{\"default\":[]}}";
+
+/// Four arrivals in a second for two users.
+const FOUR: &[u8] =
+    b"{\"options\":{\"scenarios\":{\"main\":{\"executor\":\"constant-arrival-rate\",\"rate\":4,\"duration\":\"1s\",\"preAllocatedVUs\":2,\"maxVUs\":2}}},\"scripts\":{\"default\":[]}}";
+
+/// Ten arrivals in a second that begins late, for two users and at most five.
+const LATE: &[u8] =
+    b"{\"options\":{\"scenarios\":{\"late\":{\"executor\":\"constant-arrival-rate\",\"startTime\":\"5s\",\"gracefulStop\":\"10s\",\"rate\":10,\"duration\":\"1s\",\"preAllocatedVUs\":2,\"maxVUs\":5}}},\"scripts\":{\"default\":[]}}";
+
+// The plan of a segment of a test.
+fn plan_of(alloc: Global, test: &[u8], segment: &[u8]) -> Result<Plan, Fail> {
+    let options = Options::read(alloc, test)?;
+    let segment = Segment::read(segment)?;
     let sequence = Sequence::fill(alloc, &segment, None)?;
     Ok(Plan::of(alloc, options, segment, sequence, 1_000_000)?)
+}
+
+// The plan of three quarters of the test.
+fn plan(alloc: Global) -> Result<Plan, Fail> {
+    plan_of(alloc, TEST, b"1/4:1")
 }
 
 // An entry of thread 0.
@@ -90,5 +107,61 @@ fn sums_what_is_planned(rt: HostRuntime) -> Result<(), Fail> {
     let want =
         b"before users 1 4\nscenario main planned 8 started 0 done 0 interrupted 0 dropped 0 late 0\n";
     assert_eq!(rt; text.as_slice(), want.as_slice());
+    Ok(())
+}
+
+/// A plan and what is printed of it.
+#[derive(Drop)]
+struct Printed {
+    test: &'static [u8],
+    segment: &'static [u8],
+    listed: bool,
+    want: &'static [u8],
+}
+
+/// Whole tests and the two halves of one, with their items and without.
+#[test]
+fn prints_plans(rt: HostRuntime) -> Result<(), Fail> {
+    let alloc = rt.alloc();
+    let table = [
+        Printed {
+            test: THREE,
+            segment: b"0:1",
+            listed: true,
+            want: b"sequence 0,1 position 0\nusers 1 1\nscenario main constant-arrival-rate begin 0 end 1000000000 hard 31000000000 users 1 max 1 items 3\nmoment 0 0\nmoment 1 333333333\nmoment 2 666666666\n",
+        },
+        Printed {
+            test: THREE,
+            segment: b"0:1",
+            listed: false,
+            want: b"sequence 0,1 position 0\nusers 1 1\nscenario main constant-arrival-rate begin 0 end 1000000000 hard 31000000000 users 1 max 1 items 3\n",
+        },
+        Printed {
+            test: FOUR,
+            segment: b"0:1/2",
+            listed: true,
+            want: b"sequence 0,1/2,1 position 0\nusers 1 1\nscenario main constant-arrival-rate begin 0 end 1000000000 hard 31000000000 users 1 max 1 items 2\nmoment 0 0\nmoment 2 500000000\n",
+        },
+        Printed {
+            test: FOUR,
+            segment: b"1/2:1",
+            listed: true,
+            want: b"sequence 0,1/2,1 position 1\nusers 1 1\nscenario main constant-arrival-rate begin 0 end 1000000000 hard 31000000000 users 1 max 1 items 2\nmoment 1 250000000\nmoment 3 750000000\n",
+        },
+        Printed {
+            test: LATE,
+            segment: b"0:1",
+            listed: false,
+            want: b"sequence 0,1 position 0\nusers 2 5\nscenario late constant-arrival-rate begin 5000000000 end 6000000000 hard 16000000000 users 2 max 5 items 10\n",
+        },
+    ];
+    for row in &table {
+        let plan = plan_of(alloc, row.test, row.segment)?;
+        let mut text = Vec::from_slice(alloc, b"before ")?;
+        plan_text(&plan, row.listed, &mut text)?;
+        let mut want = Vec::from_slice(alloc, b"before ")?;
+        want.extend_from_slice(row.want)?;
+        assert_eq!(rt; text.as_slice(), want.as_slice());
+    }
     Ok(())
 }

@@ -1,0 +1,44 @@
+use Rattle.std.proofs.Common.{◌∙◌, ◌++◌, ap, arith}
+use Rattle.ld_summary.specs.PlanText.{moment_line}
+use Rattle.ld_summary.proofs.PlanTextLemmas.{moment_is, told_added, told_all, told_passed}
+use Rattle.ld_summary.proofs.ScenarioLemmas.{grows_more, on_err}
+use Rattle.ld_summary.proofs.plan_lines.put_items.Goals as goal
+use Rattle.ld_summary.proofs.plan_lines.put_items.Goals.{then-owns+in_ok-put_moment, else-owns}
+
+pub returns-in_err-put_moment-clause-err : goal.returns-in_err-put_moment-clause-err
+returns-in_err-put_moment-clause-err c =
+    let so_far = c.loop-item.invariant.grows in
+    on_err c.from_residual.result
+    (grows_more c.args.into.now.items c.loop-item.into.items c.put_moment.new.into.items so_far.0 so_far.1 c.in_err-put_moment.ensures.err)
+
+pub loop-item-preserved : goal.loop-item-preserved
+loop-item-preserved c =
+    let seen = c.args.plan.now in
+    let item = c.loop-item.item in
+    let so_far = c.loop-item.invariant.grows in
+    let told = c.loop-item.invariant.told in
+    elim c.if-owns.branch [
+      | then-owns+in_ok-put_moment w ↦
+          rw w.into-is (record {
+            told = λ scenario at.
+                told_added _ scenario item _ _ _ c.owns.result w.if-owns.true c.owns.ensures (told scenario at)
+                (w.in_ok-put_moment.ensures.ok
+                ∙ ap (λ m. c.loop-item.into.items ++ moment_line item m) (moment_is seen c.args.number scenario item w.moment.result c.requires.made at w.moment.ensures.moment));
+            grows =
+                grows_more c.args.into.now.items c.loop-item.into.items w.put_moment.new.into.items so_far.0 so_far.1
+                (moment_line item w.moment.result, w.in_ok-put_moment.ensures.ok);
+          })
+      | else-owns w ↦
+          rw w.into-is (record {
+            told = λ scenario at. told_passed _ scenario item _ _ c.owns.result w.if-owns.false c.owns.ensures (told scenario at);
+            grows = so_far;
+          })
+    ]
+
+pub returns-clause-ok : goal.returns-clause-ok
+returns-clause-ok c =
+    let end = c.loop-item.auto.item-end in
+    let past = c.loop-item-test.false in
+    λ scenario at.
+    told_all _ scenario c.loop-item.item c.whole_items-item-end.result _ _ (omega arith) c.whole_items-item-end.ensures
+    (c.loop-item.invariant.told scenario at)
