@@ -3,4 +3,5 @@ mod faults;
 mod refusals;
 mod rehearsals;
 mod stripes;
+mod test_files;
 mod words;

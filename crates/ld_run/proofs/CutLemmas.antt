@@ -24,7 +24,7 @@ use Rattle.ld_stripe.proofs.LowestTermsLemmas.{period_at_most, sum_positive}
 use Rattle.ld_run.specs.Cut.{sequence_line, segment_word, AreGiven, IsCut, IsCutRefusal, IsCutText, IsGivenRefusal, IsPartRefusal, IsPartText, RefusesCut, RefusesPart}
 use Rattle.ld_run.specs.Indices.{numbers_line, owned_below}
 use Rattle.ld_run.specs.declared.refusal.Refusal.{Refusal}
-use Rattle.ld_run.specs.declared.refusal.Refusal.TheVariants.{Words, Stripe, NoSuchPosition, Segment, NotInSequence, Test, Plan, Memory}
+use Rattle.ld_run.specs.declared.refusal.Refusal.TheVariants.{Words, Stripe, NoSuchPosition, Segment, NotInSequence, Read, TooLong, Test, Plan, Memory}
 use Rattle.ld_run.proofs.StripeLemmas.{same_owners}
 
 -- ---- words cut a test in one way
@@ -81,6 +81,8 @@ part_not_refused : (count : ℕ) (from to : Frac) (points : List Frac) (text : L
 part_not_refused count from to points text (Segment f) whole has refused =
     period_not_refused points has.period has.weights whole has.weighted has.small f refused.2
 part_not_refused count from to points text NotInSequence whole has refused = refused has.position has.stands
+part_not_refused count from to points text Read whole has refused = refused
+part_not_refused count from to points text (TooLong place) whole has refused = refused
 part_not_refused count from to points text (Test f) whole has refused = refused
 part_not_refused count from to points text (Plan f) whole has refused = refused
 part_not_refused count from to points text (Words place) whole has refused = refused
@@ -114,6 +116,8 @@ cut_text_not_refused count segment sequence text (Segment f) has refused = elim 
   ]
 ]
 cut_text_not_refused count segment sequence text NotInSequence has refused = refused_part segment sequence count text NotInSequence has refused
+cut_text_not_refused count segment sequence text Read has refused = refused
+cut_text_not_refused count segment sequence text (TooLong place) has refused = refused
 cut_text_not_refused count segment sequence text (Test f) has refused = refused
 cut_text_not_refused count segment sequence text (Plan f) has refused = refused
 cut_text_not_refused count segment sequence text (Words place) has refused = refused
@@ -212,6 +216,8 @@ cut_answer count segment sequence from to points cut (Err r) refused = λ named.
     part_refused : (r : Refusal) → IsPartRefusal from to points r → IsCutRefusal segment sequence r
     part_refused (Segment f) refused = inr (inr (from, to, points, cut, refused))
     part_refused NotInSequence refused = (from, to, points, cut, refused)
+    part_refused Read refused = refused
+    part_refused (TooLong place) refused = refused
     part_refused (Test f) refused = refused
     part_refused (Plan f) refused = refused
     part_refused (Words place) refused = refused

@@ -10,7 +10,7 @@ use Rattle.ld_outside.specs.declared.sink.SinkFault.TheVariants as sinks
 use Rattle.ld_rehearsal.specs.declared.full.FullJournal.{FullJournal}
 use Rattle.ld_run.specs.Answer.{full_line}
 use Rattle.ld_run.specs.Delivery.{FrontFiled, IsDelivered, IsEndSaid, IsFiled, WholeFiled}
-use Rattle.ld_run.specs.Refusal.{memory_line}
+use Rattle.ld_run.specs.RefusalLine.{memory_line}
 use Rattle.ld_run.specs.Saying.{IsSaid, write_line}
 use Rattle.ld_run.specs.declared.answer.Answer.{Answer}
 use Rattle.ld_run.specs.declared.answer.NamedFile.{NamedFile}

@@ -1,357 +1,238 @@
 -- The run of the desk, put together from what was read and what was said.
-use Rattle.std.proofs.Common.{◌≡◌, ◌≢◌, ◌≤◌, ◌⊎◌, ◌∙◌, ℕ, List, inl, inr, arith, refl, sym, subst, ap}
+use Rattle.std.proofs.Common.{◌≡◌, ◌≤◌, ◌⊎◌, ◌∙◌, ℕ, List, inl, inr, arith, refl, sym, subst, ap, length}
 use Rattle.std.specs.Prelude.{Option, Some, None}
-use Rattle.ld_outside.specs.SinkView.{SinkView, TookFront, Rose}
-use Rattle.ld_outside.specs.ShelfView.{ShelfView}
+use Rattle.ld_outside.specs.SinkView.{Rose}
+use Rattle.ld_outside.specs.ShelfView.{Became, FileList, Kept, ShelfView, bytes_of}
 use Rattle.ld_machine.proofs.ListLemmas.{some_not_none}
-use Rattle.ld_plan.specs.declared.fault.PlanFault.{PlanFault}
-use Rattle.ld_plan.specs.declared.fault.PlanFault.TheVariants as plans
-use Rattle.ld_rehearsal.specs.declared.full.FullJournal.{FullJournal}
-use Rattle.ld_segment.specs.declared.fault.SegmentFault.{SegmentFault}
-use Rattle.ld_segment.specs.declared.fault.SegmentFault.TheVariants as cuts
-use Rattle.ld_stripe.specs.StripeFault as stripe
-use Rattle.ld_stripe.specs.declared.fault.StripeFault.{StripeFault}
-use Rattle.ld_stripe.specs.declared.fault.StripeFault.TheVariants as stripes
 use Rattle.ld_words.specs.Words as words
-use Rattle.ld_words.specs.declared.fault.WordsFault.{WordsFault}
 use Rattle.ld_words.specs.declared.fault.WordsFault.TheVariants.{Refused}
 use Rattle.ld_words.specs.declared.words.Words as requests
-use Rattle.ld_words.specs.declared.words.Words.TheVariants.{StripeWeights, StripeSegment, RehearseWords}
+use Rattle.ld_words.specs.declared.words.Words.TheVariants as asked
 use Rattle.ld_words.proofs.ReadingLemmas.{asked_not_refused, asked_once}
-use Rattle.ld_run.specs.Cut.{IsCutRefusal}
-use Rattle.ld_run.specs.DeskRun.{IsDeskRun, IsLine}
-use Rattle.ld_run.specs.Answer.{full_line, text_alone}
-use Rattle.ld_run.specs.Delivery.{AllWritten, FileBroken, IsDelivered, IsEndLine, TextBroken}
-use Rattle.ld_run.specs.Refusal.{HasAnswer, IsAnswerOf, IsRefusalOf, IsRefused, line_of, memory_line, plan_status, segment_status, status_of, stripe_status, test_status}
-use Rattle.ld_run.specs.Rehearsal.{entry_limit, IsRehearsalRefusal, IsWholePlan, RefusesWholePlan}
-use Rattle.ld_run.specs.Saying.{IsRefusalSaid, Says, Untouched, write_line}
+use Rattle.ld_run.specs.Answered.{HasAnswer, HasGot, IsAnswerOf}
+use Rattle.ld_run.specs.DeskRun.{IsRefusalStatus}
+use Rattle.ld_run.specs.Planned.{IsCuttable, IsUncut, RefusesCutTest}
+use Rattle.ld_run.specs.Refusal.{IsBytesRefusal, IsFileRefusal, IsRefused, IsRefusedAmong, IsRefusedUnread, IsRefusalFor, IsRefusalOf, IsUnreadRefusal, RefusesFile, RefusesFileAmong}
+use Rattle.ld_run.specs.RefusalLine.{status_of}
+use Rattle.ld_run.specs.TestFile.{file_of, most_bytes, TestFile}
 use Rattle.ld_run.specs.declared.answer.Answer.{Answer}
 use Rattle.ld_run.specs.declared.refusal.Refusal.{Refusal}
-use Rattle.ld_run.specs.declared.refusal.Refusal.TheVariants.{Words, Stripe, NoSuchPosition, Segment, NotInSequence, Test, Plan, Memory}
-use Rattle.ld_run.proofs.CutLemmas.{cut_memory, cut_not_refused, cut_refused, cut_text_not_refused, one_cut_text}
-use Rattle.ld_run.proofs.PlanLemmas.{memory_not_refused, plan_not_refused}
-use Rattle.ld_options.proofs.ScenarioLemmas.{apart}
-use Rattle.ld_options.specs.Document.{IsRefusal}
-use Rattle.ld_options.specs.declared.fault.OptionsFault.{OptionsFault}
-use Rattle.ld_options.specs.declared.fault.OptionsFault.TheVariants as options
-use Rattle.ld_plan.specs.PlanView.{PlanView}
-use Rattle.ld_words.specs.RateTest.{rate_test}
-use Rattle.ld_run.proofs.SayingLemmas.{said_front, untouched}
-use Rattle.ld_run.proofs.StripeLemmas.{one_weights_text, weights_text_not_refused}
+use Rattle.ld_run.specs.declared.refusal.Refusal.TheVariants as refusals
+use Rattle.ld_run.proofs.RefusalLemmas.{among_once, answer_not_among, answer_not_unread, some_once, test_refused_status, uncut_not_cut, unread_status}
+use Rattle.ld_run.proofs.ShelfLemmas.{became_nothing, became_so}
 
--- ---- requests
+-- ---- words that have an answer aren't refused
 
--- a request that has an answer isn't refused
-rehearsal_not_refused : (test : List ℕ) (limit : ℕ) (seen : PlanView) (r : Refusal) → IsWholePlan test limit seen → IsRehearsalRefusal test limit r → ⊥
-rehearsal_not_refused test limit seen (Segment f) has refused = cut_not_refused None None _ _ has.points f has.cut refused
-rehearsal_not_refused test limit seen (Test f) has refused = apart test has.options f has.options_are refused
-rehearsal_not_refused test limit seen (Plan f) has refused = plan_not_refused test limit seen f has refused
-rehearsal_not_refused test limit seen (Words place) has refused = refused
-rehearsal_not_refused test limit seen (Stripe f) has refused = refused
-rehearsal_not_refused test limit seen (NoSuchPosition p) has refused = refused
-rehearsal_not_refused test limit seen NotInSequence has refused = refused
-rehearsal_not_refused test limit seen Memory has refused = refused
+abbrev Anything : Kept → Kept → Type 0
+Anything before now = Unit {0}
 
-request_not_refused : (request : requests.Words) (answer : Answer) (r : Refusal) → IsAnswerOf request answer → IsRefusalOf request r → ⊥
-request_not_refused (StripeWeights weights position count) answer r has refused = weights_text_not_refused weights position count has.0 r has.1 refused
-request_not_refused (StripeSegment count segment sequence) answer r has refused = cut_text_not_refused count segment sequence has.0 r has.1 refused
-request_not_refused (RehearseWords rate unit duration pre max iteration journal entries) answer r has refused =
-    rehearsal_not_refused (rate_test rate unit duration pre max) (entry_limit entries) has.seen r has.whole_plan refused
+same_request : (ws : List (List ℕ)) (p q : requests.Words) (P : requests.Words → Type 0) → words.Asks ws p → words.Asks ws q → P p → P q
+same_request ws p q P a b = subst P (asked_once ws p q a b)
 
--- one that writes no file has one answer
-request_answer : (request : requests.Words) (a b : Answer) → IsAnswerOf request a → IsAnswerOf request b → a.file ≡ None → a ≡ b
-request_answer (StripeWeights weights position count) a b ha hb none =
-    ha.2 ∙ ap text_alone (one_weights_text weights position count ha.0 hb.0 ha.1 hb.1) ∙ sym hb.2
-request_answer (StripeSegment count segment sequence) a b ha hb none =
-    ha.2 ∙ ap text_alone (one_cut_text count segment sequence ha.0 hb.0 ha.1 hb.1) ∙ sym hb.2
-request_answer (RehearseWords rate unit duration pre max iteration journal entries) a b ha hb none =
-    absurd (some_not_none (sym ha.file ∙ none))
+-- words that have an answer aren't refused before a file is read
+pub answered_not_unread : (ws : List (List ℕ)) (shelf read : ShelfView) (answer : Answer) (r : Refusal) →
+    HasAnswer ws shelf answer read → IsRefusedUnread ws r → ⊥
+answered_not_unread ws shelf read answer r has refused = elim refused.cause [
+  | inl of_words ↦ asked_not_refused ws has.request (Refused of_words.0) has.asks of_words.2
+  | inr of_names ↦ answer_not_unread of_names.0 has.answered.test answer r
+      (same_request ws has.request of_names.0 (λ q. IsAnswerOf q has.answered.test answer) has.asks of_names.1 has.answered.is) of_names.2
+]
 
--- its refusals have the status 5
-stripe_status_is : (weights : List ℕ) (f : StripeFault) → stripe.IsRefusal weights f → stripe_status f ≡ 5
-stripe_status_is weights stripes.NoWeights refused = refl
-stripe_status_is weights stripes.TooMany refused = refl
-stripe_status_is weights (stripes.ZeroWeight p) refused = refl
-stripe_status_is weights (stripes.PeriodTooLarge n) refused = refl
-stripe_status_is weights stripes.Memory refused = absurd refused
+-- nor are they for the file that they name, among the files that are told
+pub answered_not_among : (ws : List (List ℕ)) (shelf read : ShelfView) (answer : Answer) → HasAnswer ws shelf answer read →
+    Became shelf (λ before now. (r : Refusal) → IsRefusedAmong before.files ws r → ⊥) read
+answered_not_among ws shelf read answer has = go (file_of has.request) refl has.answered.got
+  where
+    named : (before : Kept) (r : Refusal) (refused : IsRefusedAmong before.files ws r) → file_of has.request ≡ Some refused.file
+    named before r refused = same_request ws refused.request has.request (λ q. file_of q ≡ Some refused.file) refused.asks has.asks refused.file_is
 
-segment_status_is : (segment sequence : Option (List ℕ)) (f : SegmentFault) → IsCutRefusal segment sequence (Segment f) → segment_status f ≡ 5
-segment_status_is segment sequence (cuts.Number at fault) refused = refl
-segment_status_is segment sequence (cuts.BelowZero at) refused = refl
-segment_status_is segment sequence (cuts.NotLess at) refused = refl
-segment_status_is segment sequence (cuts.AboveOne at) refused = refl
-segment_status_is segment sequence (cuts.Gap at) refused = refl
-segment_status_is segment sequence cuts.FewPoints refused = refl
-segment_status_is segment sequence (cuts.PeriodTooLarge n) refused = refl
-segment_status_is segment sequence cuts.TooMany refused = refl
-segment_status_is segment sequence cuts.Memory refused = absurd (cut_memory segment sequence refused)
+    go : (o : Option TestFile) → file_of has.request ≡ o → HasGot o shelf has.answered.test read →
+        Became shelf (λ before now. (r : Refusal) → IsRefusedAmong before.files ws r → ⊥) read
+    go None none got = became_nothing shelf read _ got (λ before r refused. absurd (some_not_none (sym (named before r refused) ∙ none)))
+    go (Some file) some got = became_so shelf read _ _ got.whole (λ before now bytes r refused.
+        let is = named before r refused in
+        let same : Some file ≡ Some refused.file = sym some ∙ is in
+        answer_not_among has.request refused.file has.answered.test answer before.files r is has.answered.is got.within
+        (subst (λ (f : TestFile). has.answered.test ≡ bytes_of f.name before.files) (let e : file ≡ refused.file = cc in e) bytes) refused.refused)
 
-test_status_is : (test : List ℕ) (f : OptionsFault) → IsRefusal test f → test_status f ≡ 5
-test_status_is test options.NotJson refused = refl
-test_status_is test (options.Missing path) refused = refl
-test_status_is test (options.WrongKind path) refused = refl
-test_status_is test (options.Unknown path) refused = refl
-test_status_is test (options.BadName path) refused = refl
-test_status_is test (options.BadExecutor path) refused = refl
-test_status_is test (options.Range path) refused = refl
-test_status_is test (options.MaxBelowPre path) refused = refl
-test_status_is test (options.ScriptUnknown path) refused = refl
-test_status_is test (options.Number path fault) refused = refl
-test_status_is test options.Memory refused = absurd (memory_not_refused test refused)
+-- ---- refusals of words
 
-plan_status_is : (test : List ℕ) (limit : ℕ) (f : PlanFault) → RefusesWholePlan test limit f → plan_status f ≡ 5
-plan_status_is test limit plans.NotInSequence refused = refl
-plan_status_is test limit (plans.PeriodTooLarge period) refused = refl
-plan_status_is test limit (plans.TooManyArrivals scenario count) refused = refl
-plan_status_is test limit (plans.JournalTooSmall needed most) refused = refl
-plan_status_is test limit plans.Memory refused = absurd refused.refused
+-- refusals before a file is read have one status
+pub unread_once : (ws : List (List ℕ)) (r s : Refusal) → IsRefusedUnread ws r → IsRefusedUnread ws s → status_of r ≡ status_of s
+unread_once ws r s a b = same a.cause b.cause
+  where
+    same : ((place : ℕ) × (r ≡ refusals.Words place) × words.IsRefused ws (Refused place)) ⊎ ((q : requests.Words) × words.Asks ws q × IsUnreadRefusal q r) →
+        ((place : ℕ) × (s ≡ refusals.Words place) × words.IsRefused ws (Refused place)) ⊎ ((q : requests.Words) × words.Asks ws q × IsUnreadRefusal q s) →
+        status_of r ≡ status_of s
+    same (inl x) (inl y) = ap status_of x.1 ∙ sym (ap status_of y.1)
+    same (inl x) (inr y) = absurd (asked_not_refused ws y.0 (Refused x.0) y.1 x.2)
+    same (inr x) (inl y) = absurd (asked_not_refused ws x.0 (Refused y.0) x.1 y.2)
+    same (inr x) (inr y) = unread_status x.0 r x.2 ∙ sym (unread_status y.0 s y.2)
 
-request_status : (request : requests.Words) (r : Refusal) → IsRefusalOf request r → status_of r ≡ 5
-request_status (StripeWeights weights position count) (Words place) refused = absurd refused
-request_status (StripeWeights weights position count) (Stripe f) refused = stripe_status_is weights f refused
-request_status (StripeWeights weights position count) (NoSuchPosition p) refused = refl
-request_status (StripeWeights weights position count) (Segment f) refused = absurd refused
-request_status (StripeWeights weights position count) NotInSequence refused = absurd refused
-request_status (StripeWeights weights position count) (Test f) refused = absurd refused
-request_status (StripeWeights weights position count) (Plan f) refused = absurd refused
-request_status (StripeWeights weights position count) Memory refused = absurd refused
-request_status (StripeSegment count segment sequence) (Words place) refused = absurd refused
-request_status (StripeSegment count segment sequence) (Stripe f) refused = absurd refused
-request_status (StripeSegment count segment sequence) (NoSuchPosition p) refused = absurd refused
-request_status (StripeSegment count segment sequence) (Segment f) refused = segment_status_is segment sequence f refused
-request_status (StripeSegment count segment sequence) NotInSequence refused = refl
-request_status (StripeSegment count segment sequence) (Test f) refused = absurd refused
-request_status (StripeSegment count segment sequence) (Plan f) refused = absurd refused
-request_status (StripeSegment count segment sequence) Memory refused = absurd refused
-request_status (RehearseWords rate unit duration pre max iteration journal entries) (Plan f) refused =
-    plan_status_is (rate_test rate unit duration pre max) (entry_limit entries) f refused
-request_status (RehearseWords rate unit duration pre max iteration journal entries) (Test f) refused =
-    test_status_is (rate_test rate unit duration pre max) f refused
-request_status (RehearseWords rate unit duration pre max iteration journal entries) (Words place) refused = absurd refused
-request_status (RehearseWords rate unit duration pre max iteration journal entries) (Stripe f) refused = absurd refused
-request_status (RehearseWords rate unit duration pre max iteration journal entries) (NoSuchPosition p) refused = absurd refused
-request_status (RehearseWords rate unit duration pre max iteration journal entries) (Segment f) refused =
-    segment_status_is None None f (cut_refused None None f refused)
-request_status (RehearseWords rate unit duration pre max iteration journal entries) NotInSequence refused = absurd refused
-request_status (RehearseWords rate unit duration pre max iteration journal entries) Memory refused = absurd refused
+-- what no part can be cut from is refused before its file is read
+uncut_of_file : (request : requests.Words) (file : TestFile) (r : Refusal) → file_of request ≡ Some file → IsUnreadRefusal request r →
+    IsUncut file.segment file.sequence r
+uncut_of_file (asked.StripeWeights weights position count) file r named refused = absurd (some_not_none (sym named))
+uncut_of_file (asked.StripeSegment count segment sequence) file r named refused = absurd (some_not_none (sym named))
+uncut_of_file (asked.Plan name segment sequence entries listed) file r named refused =
+    subst (λ (f : TestFile). IsUncut f.segment f.sequence r) (some_once _ file named) refused
+uncut_of_file (asked.RehearseTest name iteration journal segment sequence entries) file r named refused =
+    subst (λ (f : TestFile). IsUncut f.segment f.sequence r) (some_once _ file named) refused
+uncut_of_file (asked.RehearseWords rate unit duration pre max iteration journal entries) file r named refused = absurd (some_not_none (sym named))
+uncut_of_file asked.Help file r named refused = absurd (some_not_none (sym named))
 
--- ---- words
+unread_of_uncut : (request : requests.Words) (file : TestFile) (r : Refusal) → file_of request ≡ Some file → IsUncut file.segment file.sequence r →
+    IsUnreadRefusal request r
+unread_of_uncut (asked.StripeWeights weights position count) file r named refused = absurd (some_not_none (sym named))
+unread_of_uncut (asked.StripeSegment count segment sequence) file r named refused = absurd (some_not_none (sym named))
+unread_of_uncut (asked.Plan name segment sequence entries listed) file r named refused =
+    subst (λ (f : TestFile). IsUncut f.segment f.sequence r) (sym (some_once _ file named)) refused
+unread_of_uncut (asked.RehearseTest name iteration journal segment sequence entries) file r named refused =
+    subst (λ (f : TestFile). IsUncut f.segment f.sequence r) (sym (some_once _ file named)) refused
+unread_of_uncut (asked.RehearseWords rate unit duration pre max iteration journal entries) file r named refused = absurd (some_not_none (sym named))
+unread_of_uncut asked.Help file r named refused = absurd (some_not_none (sym named))
 
--- what is refused of the words: the words themselves, or what they name
-abbrev IsOfWords : List (List ℕ) → Refusal → Type 0
-IsOfWords ws r = (f : WordsFault) × words.IsRefused ws f × (status_of r ≡ 2)
+-- words that ask for a file
+pub record AskForFile (ws : List (List ℕ)) (file : TestFile) : Type 0 where
+  pub request : requests.Words
+  pub asks : words.Asks ws request
+  pub file_is : file_of request ≡ Some file
 
-abbrev IsOfNames : List (List ℕ) → Refusal → Type 0
-IsOfNames ws r = (request : requests.Words) × words.Asks ws request × IsRefusalOf request r
+one_file : (ws : List (List ℕ)) (file other : TestFile) → AskForFile ws file → AskForFile ws other → file ≡ other
+one_file ws file other a b =
+    some_once file other
+    (sym a.file_is ∙ ap (λ (q : requests.Words). file_of q) (asked_once ws a.request b.request a.asks b.asks) ∙ b.file_is)
 
-refused_part : (ws : List (List ℕ)) (r : Refusal) → IsRefused ws r → IsOfWords ws r ⊎ IsOfNames ws r
-refused_part ws (Words place) refused = inl (Refused place, refused, refl)
-refused_part ws (Stripe f) refused = inr refused
-refused_part ws (NoSuchPosition p) refused = inr refused
-refused_part ws (Segment f) refused = inr refused
-refused_part ws NotInSequence refused = inr refused
-refused_part ws (Test f) refused = inr refused
-refused_part ws (Plan f) refused = inr refused
-refused_part ws Memory refused = absurd refused
+among_for_file : (files : FileList) (ws : List (List ℕ)) (r : Refusal) (refused : IsRefusedAmong files ws r) → AskForFile ws refused.file
+among_for_file files ws r refused = record { request = refused.request; asks = refused.asks; file_is = refused.file_is }
 
--- words that have an answer are not refused
-pub answer_not_refused : (ws : List (List ℕ)) (answer : Answer) (r : Refusal) → HasAnswer ws answer → IsRefused ws r → ⊥
-answer_not_refused ws answer r has refused =
-    elim (refused_part ws r refused) [
-      | inl of_words ↦ asked_not_refused ws has.0 of_words.0 has.1 of_words.1
-      | inr of_names ↦
-          let same = asked_once ws has.0 of_names.0 has.1 of_names.1 in
-          request_not_refused of_names.0 answer r (subst (λ q. IsAnswerOf q answer) same has.2) of_names.2
+-- a file of which a part can be cut isn't refused before it is read
+cuttable_not_unread : (ws : List (List ℕ)) (file : TestFile) (r : Refusal) → AskForFile ws file → IsCuttable file.segment file.sequence →
+    IsRefusedUnread ws r → ⊥
+cuttable_not_unread ws file r asks cuttable refused = elim refused.cause [
+  | inl of_words ↦ asked_not_refused ws asks.request (Refused of_words.0) asks.asks of_words.2
+  | inr of_names ↦
+      let unread = same_request ws of_names.0 asks.request (λ q. IsUnreadRefusal q r) of_names.1 asks.asks of_names.2 in
+      uncut_not_cut file.segment file.sequence r cuttable (uncut_of_file asks.request file r asks.file_is unread)
+]
+
+-- the refusals of words for the file that they name have one status, among the same files
+pub among_words_once : (files : FileList) (ws : List (List ℕ)) (r s : Refusal) → IsRefusedAmong files ws r → IsRefusedAmong files ws s →
+    status_of r ≡ status_of s
+among_words_once files ws r s a b =
+    let same = one_file ws a.file b.file (among_for_file files ws r a) (among_for_file files ws s b) in
+    among_once files b.file r s (subst (λ f. RefusesFileAmong files f r) same a.refused) b.refused
+
+-- and there are none of them where the words are refused before a file is read
+pub unread_not_among : (files : FileList) (ws : List (List ℕ)) (r s : Refusal) → IsRefusedUnread ws r → IsRefusedAmong files ws s → ⊥
+unread_not_among files ws r s a b = cuttable_not_unread ws b.file r (among_for_file files ws s b) b.refused.cuttable a
+
+-- ---- how words are refused
+
+-- before a file is read, or for the file
+pub record IsRefusedHow (ws : List (List ℕ)) (old : ShelfView) (r : Refusal) (new : ShelfView) : Type 0 where
+  pub how : (IsRefusedUnread ws r × (new ≡ old)) ⊎ ((file : TestFile) × AskForFile ws file × RefusesFile file old r new)
+
+pub refused_how : (ws : List (List ℕ)) (old : ShelfView) (r : Refusal) (new : ShelfView) → IsRefused ws old r new → IsRefusedHow ws old r new
+refused_how ws old r new refused = step refused.cause
+  where
+    unread : (q : requests.Words) → words.Asks ws q → IsUnreadRefusal q r → IsRefusedUnread ws r
+    unread q asks is = record { cause = inr (q, asks, is) }
+
+    go : (q : requests.Words) → words.Asks ws q → (o : Option TestFile) → file_of q ≡ o →
+        IsRefusalFor o q old r new → IsRefusedHow ws old r new
+    go q asks None is cause = record { how = inl (unread q asks cause.0, cause.1) }
+    go q asks (Some file) is named = elim named.cause as (λ _. IsRefusedHow ws old r new) [
+      | inl uncut ↦ record { how = inl (unread q asks (unread_of_uncut q file r is uncut.0), uncut.1) }
+      | inr of_file ↦ record { how = inr (file, record { request = q; asks = asks; file_is = is }, of_file) }
     ]
 
-named_status : (ws : List (List ℕ)) (r : Refusal) → IsRefused ws r →
-    IsOfWords ws r ⊎ ((request : requests.Words) × words.Asks ws request × (status_of r ≡ 5))
-named_status ws r refused =
-    elim (refused_part ws r refused) as (λ _. IsOfWords ws r ⊎ ((request : requests.Words) × words.Asks ws request × (status_of r ≡ 5))) [
-      | inl of_words ↦ inl of_words
-      | inr of_names ↦ inr (of_names.0, of_names.1, request_status of_names.0 r of_names.2)
+    step : ((place : ℕ) × (r ≡ refusals.Words place) × words.IsRefused ws (Refused place) × (new ≡ old))
+        ⊎ ((q : requests.Words) × words.Asks ws q × IsRefusalOf q old r new) → IsRefusedHow ws old r new
+    step (inl of_words) = record { how = inl (record { cause = inl (of_words.0, of_words.1, of_words.2) }, of_words.3) }
+    step (inr of_names) = go of_names.0 of_names.1 (file_of of_names.0) refl of_names.2
+
+unread_status_is : (ws : List (List ℕ)) (r : Refusal) → IsRefusedUnread ws r → IsRefusalStatus (status_of r)
+unread_status_is ws r refused = elim refused.cause as (λ _. IsRefusalStatus (status_of r)) [
+  | inl of_words ↦ inl (ap status_of of_words.1)
+  | inr of_names ↦ inr (inr (inl (unread_status of_names.0 r of_names.2)))
+]
+
+file_status : (file : TestFile) (old : ShelfView) (r : Refusal) (new : ShelfView) → RefusesFile file old r new → IsRefusalStatus (status_of r)
+file_status file old r new refused = elim refused.cause as (λ _. IsRefusalStatus (status_of r)) [
+  | inl of_file ↦ elim of_file as (λ _. IsRefusalStatus (status_of r)) [
+    | inl failed ↦ inr (inl (ap status_of failed.0))
+    | inr long ↦ inr (inr (inr (ap status_of long.0)))
+  ]
+  | inr bytes ↦ inr (inr (inl (test_refused_status _ _ _ _ r bytes.2)))
+]
+
+-- a refusal has one of the statuses of refusals
+pub refused_status : (ws : List (List ℕ)) (old : ShelfView) (r : Refusal) (new : ShelfView) → IsRefusedHow ws old r new → IsRefusalStatus (status_of r)
+refused_status ws old r new refused = elim refused.how as (λ _. IsRefusalStatus (status_of r)) [
+  | inl unread ↦ unread_status_is ws r unread.0
+  | inr of_file ↦ file_status of_file.0 old r new of_file.2
+]
+
+-- it has the status of each refusal before a file is read
+pub refused_unread : (ws : List (List ℕ)) (old : ShelfView) (r : Refusal) (new : ShelfView) (s : Refusal) → IsRefusedHow ws old r new →
+    IsRefusedUnread ws s → status_of r ≡ status_of s
+refused_unread ws old r new s refused unread = elim refused.how as (λ _. status_of r ≡ status_of s) [
+  | inl is ↦ unread_once ws r s is.0 unread
+  | inr of_file ↦ absurd (cuttable_not_unread ws of_file.0 s of_file.1 of_file.2.cuttable unread)
+]
+
+-- the refusals of a file, where it was read
+file_among : (ws : List (List ℕ)) (file : TestFile) (old : ShelfView) (r : Refusal) (new : ShelfView) → AskForFile ws file → RefusesFile file old r new →
+    Became old (λ before now. (s : Refusal) → IsRefusedAmong before.files ws s → (status_of r ≡ status_of s) ⊎ (status_of r ≡ 3)) new
+file_among ws file old r new asks refused = step refused.cause
+  where
+    P : Kept → Kept → Type 0
+    P before now = (s : Refusal) → IsRefusedAmong before.files ws s → (status_of r ≡ status_of s) ⊎ (status_of r ≡ 3)
+
+    among : (before : Kept) (s : Refusal) → IsRefusedAmong before.files ws s → RefusesFileAmong before.files file s
+    among before s is = subst (λ f. RefusesFileAmong before.files f s) (one_file ws is.file file (among_for_file before.files ws s is) asks) is.refused
+
+    step : IsFileRefusal old file.name r new ⊎ IsBytesRefusal old file r new → Became old P new
+    step (inl (inl failed)) = became_so old new _ P failed.1.kept (λ before now stay s is. inr (ap status_of failed.0))
+    step (inl (inr long)) = became_so old new _ P (long.1.longer refl) (λ before now more s is.
+        inl (among_once before.files file r s (record { cuttable = refused.cuttable; cause = inl (long.0, more) }) (among before s is)))
+    step (inr bytes) = became_so old new _ P bytes.1.whole (λ before now whole s is.
+        inl (among_once before.files file r s
+        (record {
+          cuttable = refused.cuttable;
+          cause = inr (
+            subst (λ (text : List ℕ). length text ≤ most_bytes) whole bytes.1.within,
+            subst (λ (text : List ℕ). RefusesCutTest file.segment file.sequence text file.limit r) whole bytes.2,
+          );
+        })
+        (among before s is)))
+
+-- it has the status of each refusal of the file that the words name, or the file wasn't read
+pub refused_among : (ws : List (List ℕ)) (old : ShelfView) (r : Refusal) (new : ShelfView) → IsRefusedHow ws old r new →
+    Became old (λ before now. (s : Refusal) → IsRefusedAmong before.files ws s → (status_of r ≡ status_of s) ⊎ (status_of r ≡ 3)) new
+refused_among ws old r new refused = elim refused.how as (λ _. Became old (λ before now. (s : Refusal) → IsRefusedAmong before.files ws s → (status_of r ≡ status_of s) ⊎ (status_of r ≡ 3)) new) [
+  | inl unread ↦ became_nothing old new _ unread.1 (λ before s is. absurd (unread_not_among before.files ws r s unread.0 is))
+  | inr of_file ↦ file_among ws of_file.0 old r new of_file.1 of_file.2
+]
+
+unread_not_three : (ws : List (List ℕ)) (r : Refusal) → IsRefusedUnread ws r → status_of r ≡ 3 → ⊥
+unread_not_three ws r refused three = elim refused.cause [
+  | inl of_words ↦ let two = ap status_of of_words.1 in omega arith
+  | inr of_names ↦ let five = unread_status of_names.0 r of_names.2 in omega arith
+]
+
+-- status 3 says that a fault of reading was counted
+pub read_rose : (ws : List (List ℕ)) (old : ShelfView) (r : Refusal) (new : ShelfView) → IsRefusedHow ws old r new → status_of r ≡ 3 →
+    Rose old.read_faults new.read_faults
+read_rose ws old r new refused three = step refused.how
+  where
+    step : (IsRefusedUnread ws r × (new ≡ old)) ⊎ ((file : TestFile) × AskForFile ws file × RefusesFile file old r new) → Rose old.read_faults new.read_faults
+    step (inl unread) = absurd (unread_not_three ws r unread.0 three)
+    step (inr of_file) = elim of_file.2.cause as (λ _. Rose old.read_faults new.read_faults) [
+      | inl named ↦ elim named as (λ _. Rose old.read_faults new.read_faults) [
+        | inl failed ↦ failed.1.reads
+        | inr long ↦ let eleven = ap status_of long.0 in absurd (omega arith)
+      ]
+      | inr bytes ↦ let five = test_refused_status _ _ _ _ r bytes.2 in absurd (omega arith)
     ]
-
--- the refusals of one list of words have one status
-pub one_status : (ws : List (List ℕ)) (r s : Refusal) → IsRefused ws r → IsRefused ws s → status_of r ≡ status_of s
-one_status ws r s a b = same (named_status ws r a) (named_status ws s b)
-  where
-    same : IsOfWords ws r ⊎ ((request : requests.Words) × words.Asks ws request × (status_of r ≡ 5)) →
-        IsOfWords ws s ⊎ ((request : requests.Words) × words.Asks ws request × (status_of s ≡ 5)) → status_of r ≡ status_of s
-    same (inl x) (inl y) = x.2 ∙ sym y.2
-    same (inl x) (inr y) = absurd (asked_not_refused ws y.0 x.0 y.1 x.1)
-    same (inr x) (inl y) = absurd (asked_not_refused ws x.0 y.0 x.1 y.1)
-    same (inr x) (inr y) = x.2 ∙ sym y.2
-
--- words that write no file have one answer
-pub one_answer : (ws : List (List ℕ)) (a b : Answer) → HasAnswer ws a → HasAnswer ws b → a.file ≡ None → a ≡ b
-one_answer ws a b ha hb none =
-    let same = asked_once ws ha.0 hb.0 ha.1 hb.1 in
-    request_answer hb.0 a b (subst (λ q. IsAnswerOf q a) same ha.2) hb.2 none
-
--- ---- runs
-
--- the answer was written
-pub answer_run : (words : List (List ℕ)) (answer : Answer) (status : ℕ) (shelf shelf' : ShelfView) (out out' err err' : SinkView) →
-    HasAnswer words answer → IsDelivered answer status shelf shelf' out out' err err' → IsDeskRun words status shelf shelf' out out' err err'
-answer_run words answer status shelf shelf' out out' err err' has put = run put.put
-  where
-    broken : status ≡ 4 → Says err write_line err' →
-        (FileBroken answer shelf shelf' out out' × Rose shelf.write_faults shelf'.write_faults) ⊎ (TextBroken answer shelf shelf' out out' × Rose out.faults out'.faults) →
-        IsDeskRun words status shelf shelf' out out' err err'
-    broken is said how = record {
-      known = inr (inr (inl is));
-      well = λ e. absurd (omega arith);
-      full = λ e. absurd (omega arith);
-      refused_only = λ e. elim e [ inl two ↦ absurd (omega arith) | inr five ↦ absurd (omega arith) ];
-      refused_exactly = λ r refused. absurd (answer_not_refused words answer r has refused);
-      write_only = λ e. (answer, has, said, how);
-      memory_out = λ e. absurd (omega arith);
-      memory_err = λ e. absurd (omega arith);
-      shelf_count = put.shelf_count;
-      reads = put.reads;
-      out_count = put.out_count;
-      err_count = put.err_count;
-    }
-
-    run : ((status ≡ 0) × (answer.full ≡ None) × AllWritten answer shelf shelf' out out' × Untouched err err')
-        ⊎ (((full : FullJournal) × (answer.full ≡ Some full) × (status ≡ 7) × AllWritten answer shelf shelf' out out' × Says err (full_line full) err')
-        ⊎ (((status ≡ 4) × FileBroken answer shelf shelf' out out' × Rose shelf.write_faults shelf'.write_faults × Says err write_line err')
-        ⊎ (((status ≡ 4) × TextBroken answer shelf shelf' out out' × Rose out.faults out'.faults × Says err write_line err')
-        ⊎ ((status ≡ 9) × (FileBroken answer shelf shelf' out out' ⊎ TextBroken answer shelf shelf' out out')
-        × ((line : List ℕ) × IsEndLine answer line × TookFront err line err'))))) →
-        IsDeskRun words status shelf shelf' out out' err err'
-    run (inl well) =
-        let is : status ≡ 0 = well.0 in
-        record {
-          known = inl is;
-          well = λ e. (answer, has, well.1, well.2, well.3);
-          full = λ e. absurd (omega arith);
-          refused_only = λ e. elim e [ inl two ↦ absurd (omega arith) | inr five ↦ absurd (omega arith) ];
-          refused_exactly = λ r refused. absurd (answer_not_refused words answer r has refused);
-          write_only = λ e. absurd (omega arith);
-          memory_out = λ e. absurd (omega arith);
-          memory_err = λ e. absurd (omega arith);
-          shelf_count = put.shelf_count;
-          reads = put.reads;
-          out_count = put.out_count;
-          err_count = put.err_count;
-        }
-    run (inr (inl lacked)) =
-        let is : status ≡ 7 = lacked.2 in
-        record {
-          known = inr (inr (inr (inr (inl is))));
-          well = λ e. absurd (omega arith);
-          full = λ e. (answer, lacked.0, has, lacked.1, lacked.3, lacked.4);
-          refused_only = λ e. elim e [ inl two ↦ absurd (omega arith) | inr five ↦ absurd (omega arith) ];
-          refused_exactly = λ r refused. absurd (answer_not_refused words answer r has refused);
-          write_only = λ e. absurd (omega arith);
-          memory_out = λ e. absurd (omega arith);
-          memory_err = λ e. absurd (omega arith);
-          shelf_count = put.shelf_count;
-          reads = put.reads;
-          out_count = put.out_count;
-          err_count = put.err_count;
-        }
-    run (inr (inr (inl failed))) = broken failed.0 failed.3 (inl (failed.1, failed.2))
-    run (inr (inr (inr (inl failed)))) = broken failed.0 failed.3 (inr (failed.1, failed.2))
-    run (inr (inr (inr (inr lacked)))) =
-        let is : status ≡ 9 = lacked.0 in
-        record {
-          known = inr (inr (inr (inr (inr is))));
-          well = λ e. absurd (omega arith);
-          full = λ e. absurd (omega arith);
-          refused_only = λ e. elim e [ inl two ↦ absurd (omega arith) | inr five ↦ absurd (omega arith) ];
-          refused_exactly = λ r refused. absurd (answer_not_refused words answer r has refused);
-          write_only = λ e. absurd (omega arith);
-          memory_out = λ e. inr (answer, has, lacked.1);
-          memory_err = λ e. (lacked.2.0, inr (inl (answer, has, lacked.2.1)), lacked.2.2);
-          shelf_count = put.shelf_count;
-          reads = put.reads;
-          out_count = put.out_count;
-          err_count = put.err_count;
-        }
-
--- where memory lacks, there is nothing to refuse; else the words are refused
-told_or_memory : (words : List (List ℕ)) (refusal : Refusal) → (refusal ≢ Memory → IsRefused words refusal) →
-    (refusal ≡ Memory) ⊎ IsRefused words refusal
-told_or_memory words (Words place) refused = inr (refused (λ e. cc))
-told_or_memory words (Stripe f) refused = inr (refused (λ e. cc))
-told_or_memory words (NoSuchPosition p) refused = inr (refused (λ e. cc))
-told_or_memory words (Segment f) refused = inr (refused (λ e. cc))
-told_or_memory words NotInSequence refused = inr (refused (λ e. cc))
-told_or_memory words (Test f) refused = inr (refused (λ e. cc))
-told_or_memory words (Plan f) refused = inr (refused (λ e. cc))
-told_or_memory words Memory refused = inl refl
-
--- memory lacked, and a front of a line was taken
-memory_run : (words : List (List ℕ)) (status : ℕ) (shelf : ShelfView) (out err err' : SinkView) → status ≡ 9 →
-    ((line : List ℕ) × IsLine words line × TookFront err line err') → err.faults ≤ err'.faults →
-    IsDeskRun words status shelf shelf out out err err'
-memory_run words status shelf out err err' is line count = record {
-  known = inr (inr (inr (inr (inr is))));
-  well = λ e. absurd (omega arith);
-  full = λ e. absurd (omega arith);
-  refused_only = λ e. elim e [ inl two ↦ absurd (omega arith) | inr five ↦ absurd (omega arith) ];
-  refused_exactly = λ r refused. inr is;
-  write_only = λ e. absurd (omega arith);
-  memory_out = λ e. inl (refl, untouched out);
-  memory_err = λ e. line;
-  shelf_count = omega arith;
-  reads = refl;
-  out_count = omega arith;
-  err_count = count;
-}
-
--- the line of the refusal was said
-refused_run : (words : List (List ℕ)) (refusal : Refusal) (status : ℕ) (shelf : ShelfView) (out err err' : SinkView) →
-    IsRefused words refusal → status ≡ status_of refusal → Says err (line_of refusal) err' → err.faults ≤ err'.faults →
-    IsDeskRun words status shelf shelf out out err err'
-refused_run words refusal status shelf out err err' refused is said count =
-    elim (named_status words refusal refused) as (λ _. IsDeskRun words status shelf shelf out out err err') [
-      | inl of_words ↦ made (inl (is ∙ of_words.2))
-      | inr of_names ↦ made (inr (is ∙ of_names.2))
-    ]
-  where
-    made : (status ≡ 2) ⊎ (status ≡ 5) → IsDeskRun words status shelf shelf out out err err'
-    made which = record {
-      known = elim which [ inl two ↦ inr (inl two) | inr five ↦ inr (inr (inr (inl five))) ];
-      well = λ e. elim which [ inl two ↦ absurd (omega arith) | inr five ↦ absurd (omega arith) ];
-      full = λ e. elim which [ inl two ↦ absurd (omega arith) | inr five ↦ absurd (omega arith) ];
-      refused_only = λ e. (refusal, refused, is, refl, untouched out, said);
-      refused_exactly = λ r other. inl (is ∙ one_status words refusal r refused other);
-      write_only = λ e. elim which [ inl two ↦ absurd (omega arith) | inr five ↦ absurd (omega arith) ];
-      memory_out = λ e. inl (refl, untouched out);
-      memory_err = λ e. elim which [ inl two ↦ absurd (omega arith) | inr five ↦ absurd (omega arith) ];
-      shelf_count = omega arith;
-      reads = refl;
-      out_count = omega arith;
-      err_count = count;
-    }
-
--- the refusal was said, or want of memory was
-pub refusal_run : (words : List (List ℕ)) (refusal : Refusal) (status : ℕ) (shelf : ShelfView) (out err err' : SinkView) →
-    (refusal ≢ Memory → IsRefused words refusal) → IsRefusalSaid refusal status err err' →
-    IsDeskRun words status shelf shelf out out err err'
-refusal_run words refusal status shelf out err err' refused said = run (told_or_memory words refusal refused) said.said
-  where
-    run : (refusal ≡ Memory) ⊎ IsRefused words refusal →
-        ((status ≡ status_of refusal) × Says err (line_of refusal) err')
-        ⊎ ((status ≡ 9) × (TookFront err (line_of refusal) err' ⊎ TookFront err memory_line err')) →
-        IsDeskRun words status shelf shelf out out err err'
-    run (inr told) (inl s) = refused_run words refusal status shelf out err err' told s.0 s.1 said.count
-    run (inr told) (inr s) = memory_run words status shelf out err err' s.0
-        (elim s.1 [
-          | inl front ↦ (line_of refusal, inr (inr (refusal, told, refl)), front)
-          | inr front ↦ (memory_line, inl refl, front)
-        ]) said.count
-    run (inl memory) (inl s) = memory_run words status shelf out err err' (s.0 ∙ ap status_of memory)
-        (memory_line, inl refl, subst (λ line. TookFront err line err') (ap line_of memory) (said_front err err' (line_of refusal) s.1)) said.count
-    run (inl memory) (inr s) = memory_run words status shelf out err err' s.0 (
-      memory_line,
-      inl refl,
-      elim s.1 [
-        | inl front ↦ subst (λ line. TookFront err line err') (ap line_of memory) front
-        | inr front ↦ front
-      ],
-    ) said.count

@@ -1,5 +1,5 @@
 -- The journal and the summary of a rehearsal: that they may be written.
-use Rattle.std.proofs.Common.{◌≡◌, ◌≤◌, ◌<◌, ◌+◌, ◌^◌, ◌==◌, ℕ, true, List, [], ◌∷◌, ◌++◌, Option, None, Some, IsTrue, inr, arith, ap, codes, decimal, length, refl, rules, subst, ◌∙◌}
+use Rattle.std.proofs.Common.{◌≡◌, ◌≤◌, ◌<◌, ◌+◌, ◌^◌, ◌==◌, ℕ, true, List, [], ◌∷◌, ◌++◌, Option, None, Some, IsTrue, arith, ap, sym, codes, decimal, length, refl, rules, subst, ◌∙◌}
 use Rattle.std.specs.Prelude.{option_map}
 use Rattle.std.specs.List.{flat_map, list_all}
 use Rattle.std.proofs.lemmas.Fmt.{length-decimal-le}
@@ -20,16 +20,25 @@ use Rattle.ld_machine.specs.Rehearsal.{is_rehearsed_act, is_rehearsed_entry, not
 use Rattle.ld_machine.specs.Settled.{IsSettled}
 use Rattle.ld_machine.specs.State.{busy_count, opening}
 use Rattle.ld_machine.proofs.KeepsRoomLemmas.{legal_room}
-use Rattle.ld_machine.proofs.ListLemmas.{both_true}
+use Rattle.ld_machine.proofs.ListLemmas.{both_true, some_not_none}
 use Rattle.ld_machine.proofs.NumberedLemmas.{steps_numbered}
+use Rattle.ld_plan.specs.Plan.{IsMade}
 use Rattle.ld_plan.specs.PlanView.{PlanView}
 use Rattle.ld_rehearsal.specs.Stage.{full_reply}
 use Rattle.ld_rehearsal.specs.declared.full.FullJournal.{FullJournal}
 use Rattle.ld_summary.specs.Summary.{summary_text}
 use Rattle.ld_summary.specs.Summed.{AreSummed}
 use Rattle.ld_words.specs.RateTest.{duration_text, rate_test}
-use Rattle.ld_run.specs.Rehearsal.{entry_limit, header_of, IsRehearsalAnswer, IsWholePlan}
-use Rattle.ld_run.specs.declared.answer.Answer.{Answer}
+use Rattle.ld_journal.specs.Writable.{IsCutText}
+use Rattle.std.specs.Prelude.{slice_get}
+use Rattle.std.specs.Option.{option_map_or}
+use Rattle.ld_num.specs.declared.fraction.Frac.{Frac}
+use Rattle.ld_segment.specs.Printed.{segment_text}
+use Rattle.ld_segment.specs.Refusal.{ends}
+use Rattle.ld_segment.specs.Segments.{segments_of}
+use Rattle.ld_segment.specs.declared.segment.Segment.{Segment}
+use Rattle.ld_run.specs.Rehearsal.{header_of, segment_at, IsRehearsalAnswer}
+use Rattle.ld_run.proofs.PrintedLemmas.{segment_cut, sequence_cut}
 use Rattle.ld_run.specs.declared.answer.NamedFile.{NamedFile}
 
 -- ---- the test's text
@@ -102,18 +111,35 @@ no_samples (x ∷ rest) all =
 
 -- ---- the journal
 
-pub writable : (test : List ℕ) (limit iteration : ℕ) (seen : PlanView) (history : List Entry) → IsWholePlan test limit seen → length test ≤ 1048576 → 10 ≤ limit → limit ≤ 1000000 →
-    IsRehearsed seen.plan iteration history → IsWritable (header_of test limit) history
-writable test limit iteration seen history is short least most rehearsed =
+-- the segment at a position of a sequence that has one there
+pub segment_there : (points : List Frac) (position : ℕ) (segment : Segment) → slice_get (segments_of points) position ≡ Some (ends segment) →
+    segment_at points position ≡ segment_text segment.from segment.to
+segment_there points position segment is = ap (λ (o : Option (Frac × Frac)). option_map_or (λ (e : Frac × Frac). segment_text e.0 e.1) o []) is
+
+segment_cut_there : (points : List Frac) (position : ℕ) (segment : Segment) → slice_get (segments_of points) position ≡ Some (ends segment) →
+    IsCutText (segment_at points position)
+segment_cut_there points position segment is = subst IsCutText (sym (segment_there points position segment is)) (segment_cut segment.from segment.to)
+
+some_points : (points : List Frac) (position : ℕ) (segment : Segment) → slice_get (segments_of points) position ≡ Some (ends segment) → 0 < length points
+some_points [] position segment is = absurd (some_not_none (sym is))
+some_points (p ∷ ps) position segment is = omega arith
+
+-- a plan's rehearsal has a journal
+pub writable : (test : List ℕ) (iteration : ℕ) (seen : PlanView) (history : List Entry) → length test ≤ 1048576 → IsMade seen →
+    IsRehearsed seen.plan iteration history → IsWritable (header_of test seen) history
+writable test iteration seen history short made rehearsed =
     let room : length history + busy_count (state_after seen.plan history) ≤ seen.plan.entry_limit = legal_room seen.plan history rehearsed.legal in
-    let same : seen.plan.entry_limit ≡ limit = is.is_plan.entry_limit in
     let none : length (flat_map (λ (entry : Entry). samples_of entry.act) history) ≡ 0 = ap (λ xs. length xs) (no_samples history rehearsed.entries) in
+    let limit : seen.plan.entry_limit ≡ made.entries = made.is_plan.entry_limit in
+    let low = made.least in
+    let high = made.most in
+    let stands = made.is_plan.are_parts.stands in
     record {
       test = short;
-      segment = record { some = omega arith; bytes = search rules };
-      sequence = record { some = omega arith; bytes = search rules };
-      least = least;
-      most = most;
+      segment = segment_cut_there seen.sequence seen.position made.segment stands;
+      sequence = sequence_cut seen.sequence (some_points seen.sequence seen.position made.segment stands);
+      least = omega arith;
+      most = omega arith;
       turns = steps_numbered seen.plan history (opening seen.plan) rehearsed.legal;
       few_entries = omega arith;
       few_samples = omega arith;
@@ -150,22 +176,18 @@ named : (called journal written text : List ℕ) → called ≡ journal → writ
 named called journal written text name bytes = rw (name, bytes) refl
 
 -- all that was rehearsed and written is the answer
-pub answered : (test : List ℕ) (entries : Option ℕ) (limit iteration : ℕ) (journal called : List ℕ) (seen played : PlanView) (history : HistoryView) (lacked : Option FullJournal)
-    (written summary : List ℕ) → limit ≡ entry_limit entries → played ≡ seen → IsWholePlan test limit seen → IsRehearsed seen.plan iteration history.entries →
+pub answered : (test : List ℕ) (iteration : ℕ) (journal called : List ℕ) (seen played : PlanView) (history : HistoryView) (lacked : Option FullJournal)
+    (written summary : List ℕ) → played ≡ seen → IsRehearsed seen.plan iteration history.entries →
     FirstRefusal seen.plan history.entries (option_map full_reply lacked) → (lacked ≡ None → IsSettled seen.plan history.entries) → (lacked ≡ None → IsTrue (nothing_late history.entries)) →
-    called ≡ journal → written ≡ journal_text (header_of test limit) history.entries → summary ≡ summary_text (played ∷ []) (history ∷ []) →
-    IsRehearsalAnswer test (entry_limit entries) iteration journal (record { file = Some (record { name = called; bytes = written }); text = summary; full = lacked })
-answered test entries limit iteration journal called seen played history lacked written summary most same is rehearsed first settled in_time name bytes text =
-    let answer : Answer = record { file = Some (record { name = called; bytes = written }); text = summary; full = lacked } in
-    subst (λ (n : ℕ). IsRehearsalAnswer test n iteration journal answer) most
-    (record {
-      seen = seen;
-      whole_plan = is;
+    called ≡ journal → written ≡ journal_text (header_of test played) history.entries → summary ≡ summary_text (played ∷ []) (history ∷ []) →
+    IsRehearsalAnswer test seen iteration journal (record { file = Some (record { name = called; bytes = written }); text = summary; full = lacked })
+answered test iteration journal called seen played history lacked written summary same rehearsed first settled in_time name bytes text =
+    record {
       history = history;
       rehearsed = rehearsed;
       first = first;
       settled = settled;
       in_time = in_time;
-      file = named called journal written (journal_text (header_of test limit) history.entries) name bytes;
+      file = named called journal written (journal_text (header_of test seen) history.entries) name (bytes ∙ ap (λ (p : PlanView). journal_text (header_of test p) history.entries) same);
       text = text ∙ ap (λ (p : PlanView). summary_text (p ∷ []) (history ∷ [])) same;
-    })
+    }

@@ -12,7 +12,7 @@ use Rattle.ld_stripe.proofs.StripingLaws.{striping_unique}
 use Rattle.ld_run.specs.Indices.{numbers_line, owned_below}
 use Rattle.ld_run.specs.Stripe.{IsAccepted, IsWeightsRefusal, IsWeightsText}
 use Rattle.ld_run.specs.declared.refusal.Refusal.{Refusal}
-use Rattle.ld_run.specs.declared.refusal.Refusal.TheVariants.{Words, Stripe, NoSuchPosition, Segment, NotInSequence, Test, Plan, Memory}
+use Rattle.ld_run.specs.declared.refusal.Refusal.TheVariants.{Words, Stripe, NoSuchPosition, Segment, NotInSequence, Read, TooLong, Test, Plan, Memory}
 
 -- weights that have a text aren't refused
 pub weights_text_not_refused : (weights : List ℕ) (position count : ℕ) (text : List ℕ) (r : Refusal) →
@@ -25,6 +25,8 @@ weights_text_not_refused weights position count text (NoSuchPosition p) has refu
     omega arith
 weights_text_not_refused weights position count text (Segment f) has refused = refused
 weights_text_not_refused weights position count text NotInSequence has refused = refused
+weights_text_not_refused weights position count text Read has refused = refused
+weights_text_not_refused weights position count text (TooLong place) has refused = refused
 weights_text_not_refused weights position count text (Test f) has refused = refused
 weights_text_not_refused weights position count text (Plan f) has refused = refused
 weights_text_not_refused weights position count text Memory has refused = refused

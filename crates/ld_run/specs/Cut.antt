@@ -11,7 +11,7 @@ use Rattle.ld_segment.specs.declared.fault.SegmentFault.{SegmentFault}
 use Rattle.ld_stripe.specs.Striping.{Striping, IsStripingOf}
 use Rattle.ld_run.specs.Indices.{numbers_line, owned_below}
 use Rattle.ld_run.specs.declared.refusal.Refusal.{Refusal}
-use Rattle.ld_run.specs.declared.refusal.Refusal.TheVariants.{Words, Stripe, NoSuchPosition, Segment, NotInSequence, Test, Plan, Memory}
+use Rattle.ld_run.specs.declared.refusal.Refusal.TheVariants.{Words, Stripe, NoSuchPosition, Segment, NotInSequence, Read, TooLong, Test, Plan, Memory}
 
 -- a missing segment is the whole test
 abbrev pub segment_word : Option (List ℕ) → List ℕ
@@ -75,6 +75,8 @@ IsPartRefusal from to points (Segment f) =
 IsPartRefusal from to points (Words place) = ⊥
 IsPartRefusal from to points (Stripe f) = ⊥
 IsPartRefusal from to points (NoSuchPosition p) = ⊥
+IsPartRefusal from to points Read = ⊥
+IsPartRefusal from to points (TooLong place) = ⊥
 IsPartRefusal from to points (Test f) = ⊥
 IsPartRefusal from to points (Plan f) = ⊥
 IsPartRefusal from to points Memory = ⊥
@@ -105,6 +107,8 @@ IsCutRefusal segment sequence NotInSequence = RefusesPart segment sequence NotIn
 IsCutRefusal segment sequence (Words place) = ⊥
 IsCutRefusal segment sequence (Stripe f) = ⊥
 IsCutRefusal segment sequence (NoSuchPosition p) = ⊥
+IsCutRefusal segment sequence Read = ⊥
+IsCutRefusal segment sequence (TooLong place) = ⊥
 IsCutRefusal segment sequence (Test f) = ⊥
 IsCutRefusal segment sequence (Plan f) = ⊥
 IsCutRefusal segment sequence Memory = ⊥

@@ -6,7 +6,7 @@ use Rattle.ld_outside.specs.SinkView.{SinkView, Took, TookFront, Rose}
 use Rattle.ld_outside.specs.declared.shelf.ShelfFault.{ShelfFault}
 use Rattle.ld_rehearsal.specs.declared.full.FullJournal.{FullJournal}
 use Rattle.ld_run.specs.Answer.{full_line}
-use Rattle.ld_run.specs.Refusal.{memory_line}
+use Rattle.ld_run.specs.RefusalLine.{memory_line}
 use Rattle.ld_run.specs.Saying.{Says, Untouched, write_line}
 use Rattle.ld_run.specs.declared.answer.Answer.{Answer}
 use Rattle.ld_run.specs.declared.answer.NamedFile.{NamedFile}

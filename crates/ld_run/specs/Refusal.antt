@@ -1,192 +1,83 @@
--- What the words ask for, what is refused of it, and the line and the status that say so.
-use Rattle.std.specs.Prelude.{◌≡◌, ◌∷◌, ◌++◌, [], ℕ, List, codes, decimal}
-use Rattle.ld_num.specs.declared.fault.NumFault.{NumFault}
-use Rattle.ld_num.specs.declared.fault.NumFault.TheVariants as numbers
-use Rattle.ld_options.specs.declared.fault.OptionsFault.{OptionsFault}
-use Rattle.ld_options.specs.declared.fault.OptionsFault.TheVariants as options
-use Rattle.ld_plan.specs.declared.fault.PlanFault.{PlanFault}
-use Rattle.ld_plan.specs.declared.fault.PlanFault.TheVariants as plans
-use Rattle.ld_segment.specs.declared.fault.SegmentFault.{SegmentFault}
-use Rattle.ld_segment.specs.declared.fault.SegmentFault.TheVariants as cuts
-use Rattle.ld_stripe.specs.declared.fault.StripeFault.{StripeFault}
-use Rattle.ld_stripe.specs.declared.fault.StripeFault.TheVariants as stripes
+-- Why words are refused.
+use Rattle.std.specs.Prelude.{◌≡◌, ◌<◌, ◌≤◌, ◌⊎◌, ℕ, List, Option, None, Some, length}
+use Rattle.ld_outside.specs.ShelfView.{FileList, ShelfView, bytes_of}
+use Rattle.ld_outside.specs.declared.shelf.ShelfFault.TheVariants as shelves
 use Rattle.ld_words.specs.RateTest.{rate_test}
 use Rattle.ld_words.specs.Words as words
 use Rattle.ld_words.specs.declared.fault.WordsFault.TheVariants.{Refused}
 use Rattle.ld_words.specs.declared.words.Words as requests
-use Rattle.ld_words.specs.declared.words.Words.TheVariants.{StripeWeights, StripeSegment, RehearseWords}
-use Rattle.ld_run.specs.Answer.{text_alone}
-use Rattle.ld_run.specs.Cut.{IsCutRefusal, IsCutText}
-use Rattle.ld_run.specs.Rehearsal.{entry_limit, IsRehearsalAnswer, IsRehearsalRefusal}
-use Rattle.ld_run.specs.Stripe.{IsWeightsRefusal, IsWeightsText}
-use Rattle.ld_run.specs.declared.answer.Answer.{Answer}
+use Rattle.ld_words.specs.declared.words.Words.TheVariants.{StripeWeights, StripeSegment, Plan, RehearseTest, RehearseWords, Help}
+use Rattle.ld_run.specs.Cut.{IsCutRefusal}
+use Rattle.ld_run.specs.Planned.{IsCuttable, IsUncut, RefusesCutTest, RefusesWhole}
+use Rattle.ld_run.specs.Stripe.{IsWeightsRefusal}
+use Rattle.ld_run.specs.TestFile.{entry_limit, file_of, most_bytes, HasNotRead, HasRead, TestFile}
 use Rattle.ld_run.specs.declared.refusal.Refusal.{Refusal}
-use Rattle.ld_run.specs.declared.refusal.Refusal.TheVariants.{Words, Stripe, NoSuchPosition, Segment, NotInSequence, Test, Plan, Memory}
+use Rattle.ld_run.specs.declared.refusal.Refusal.TheVariants.{Words, Read, TooLong}
 
--- the answer is a text alone, of which this holds
-abbrev pub IsTextAlone : (List ℕ → Type 0) → Answer → Type 0
-IsTextAlone P answer = (text : List ℕ) × P text × (answer ≡ text_alone text)
+-- ---- without a file
 
--- the answer that a request has
-abbrev pub IsAnswerOf : requests.Words → Answer → Type 0
-IsAnswerOf (StripeWeights weights position count) answer = IsTextAlone (IsWeightsText weights position count) answer
-IsAnswerOf (StripeSegment count segment sequence) answer = IsTextAlone (IsCutText count segment sequence) answer
-IsAnswerOf (RehearseWords rate unit duration pre max iteration journal entries) answer =
-    IsRehearsalAnswer (rate_test rate unit duration pre max) (entry_limit entries) iteration journal answer
+-- what a request asks for is refused so, before any file is read
+abbrev pub IsUnreadRefusal : requests.Words → Refusal → Type 0
+IsUnreadRefusal (StripeWeights weights position count) r = IsWeightsRefusal weights position r
+IsUnreadRefusal (StripeSegment count segment sequence) r = IsCutRefusal segment sequence r
+IsUnreadRefusal (Plan name segment sequence entries listed) r = IsUncut segment sequence r
+IsUnreadRefusal (RehearseTest name iteration journal segment sequence entries) r = IsUncut segment sequence r
+IsUnreadRefusal (RehearseWords rate unit duration pre max iteration journal entries) r =
+    RefusesWhole (rate_test rate unit duration pre max) (entry_limit entries) r
+IsUnreadRefusal Help r = ⊥
 
--- a request is refused so
-abbrev pub IsRefusalOf : requests.Words → Refusal → Type 0
-IsRefusalOf (StripeWeights weights position count) r = IsWeightsRefusal weights position r
-IsRefusalOf (StripeSegment count segment sequence) r = IsCutRefusal segment sequence r
-IsRefusalOf (RehearseWords rate unit duration pre max iteration journal entries) r =
-    IsRehearsalRefusal (rate_test rate unit duration pre max) (entry_limit entries) r
+-- The words are refused so, before any file is read: as words, or else for what they ask for.
+pub record IsRefusedUnread (ws : List (List ℕ)) (r : Refusal) : Type 0 where
+  pub cause : ((place : ℕ) × (r ≡ Words place) × words.IsRefused ws (Refused place))
+      ⊎ ((request : requests.Words) × words.Asks ws request × IsUnreadRefusal request r)
 
--- the answer to the words
-abbrev pub HasAnswer : List (List ℕ) → Answer → Type 0
-HasAnswer ws answer = (request : requests.Words) × words.Asks ws request × IsAnswerOf request answer
+-- ---- with a file
 
--- what the words ask for is refused so
-abbrev pub NamesRefused : List (List ℕ) → Refusal → Type 0
-NamesRefused ws r = (request : requests.Words) × words.Asks ws request × IsRefusalOf request r
+-- the file wasn't read, or is too long; it is the word behind the command
+abbrev pub IsFileRefusal : ShelfView → List ℕ → Refusal → ShelfView → Type 0
+IsFileRefusal old name r new =
+    ((r ≡ Read) × HasNotRead old name shelves.Failed new) ⊎ ((r ≡ TooLong 1) × HasNotRead old name shelves.TooLong new)
 
--- The words are refused so: first as words, then for what they name. Want of memory is no refusal of
--- theirs.
-abbrev pub IsRefused : List (List ℕ) → Refusal → Type 0
-IsRefused ws (Words place) = words.IsRefused ws (Refused place)
-IsRefused ws (Stripe f) = NamesRefused ws (Stripe f)
-IsRefused ws (NoSuchPosition p) = NamesRefused ws (NoSuchPosition p)
-IsRefused ws (Segment f) = NamesRefused ws (Segment f)
-IsRefused ws NotInSequence = NamesRefused ws NotInSequence
-IsRefused ws (Test f) = NamesRefused ws (Test f)
-IsRefused ws (Plan f) = NamesRefused ws (Plan f)
-IsRefused ws Memory = ⊥
+-- the file was read, and its bytes are refused
+abbrev pub IsBytesRefusal : ShelfView → TestFile → Refusal → ShelfView → Type 0
+IsBytesRefusal old file r new =
+    (test : List ℕ) × HasRead old file.name test new × RefusesCutTest file.segment file.sequence test file.limit r
 
--- ---- how a refusal is said
+-- a file of which a part can be cut is refused so: for itself, or else for its bytes
+pub record RefusesFile (file : TestFile) (old : ShelfView) (r : Refusal) (new : ShelfView) : Type 0 where
+  pub cuttable : IsCuttable file.segment file.sequence
+  pub cause : IsFileRefusal old file.name r new ⊎ IsBytesRefusal old file r new
 
--- the status that a refusal ends with
-abbrev pub stripe_status : StripeFault → ℕ
-stripe_status stripes.Memory = 9
-stripe_status stripes.NoWeights = 5
-stripe_status stripes.TooMany = 5
-stripe_status (stripes.ZeroWeight position) = 5
-stripe_status (stripes.PeriodTooLarge period) = 5
+-- no part of it can be cut, or else it is refused so
+pub record RefusesNamed (file : TestFile) (old : ShelfView) (r : Refusal) (new : ShelfView) : Type 0 where
+  pub cause : (IsUncut file.segment file.sequence r × (new ≡ old)) ⊎ RefusesFile file old r new
 
-abbrev pub segment_status : SegmentFault → ℕ
-segment_status cuts.Memory = 9
-segment_status (cuts.Number at fault) = 5
-segment_status (cuts.BelowZero at) = 5
-segment_status (cuts.NotLess at) = 5
-segment_status (cuts.AboveOne at) = 5
-segment_status (cuts.Gap at) = 5
-segment_status cuts.FewPoints = 5
-segment_status (cuts.PeriodTooLarge period) = 5
-segment_status cuts.TooMany = 5
+-- what a request asks for is refused so: for this file, or where it names none without any
+abbrev pub IsRefusalFor : Option TestFile → requests.Words → ShelfView → Refusal → ShelfView → Type 0
+IsRefusalFor None request old r new = IsUnreadRefusal request r × (new ≡ old)
+IsRefusalFor (Some file) request old r new = RefusesNamed file old r new
 
-abbrev pub test_status : OptionsFault → ℕ
-test_status options.Memory = 9
-test_status options.NotJson = 5
-test_status (options.Missing path) = 5
-test_status (options.WrongKind path) = 5
-test_status (options.Unknown path) = 5
-test_status (options.BadName path) = 5
-test_status (options.BadExecutor path) = 5
-test_status (options.Range path) = 5
-test_status (options.MaxBelowPre path) = 5
-test_status (options.ScriptUnknown path) = 5
-test_status (options.Number path fault) = 5
+abbrev pub IsRefusalOf : requests.Words → ShelfView → Refusal → ShelfView → Type 0
+IsRefusalOf request = IsRefusalFor (file_of request) request
 
-abbrev pub plan_status : PlanFault → ℕ
-plan_status plans.Memory = 9
-plan_status plans.NotInSequence = 5
-plan_status (plans.PeriodTooLarge period) = 5
-plan_status (plans.TooManyArrivals scenario count) = 5
-plan_status (plans.JournalTooSmall needed limit) = 5
+-- The words are refused so: as words, or else for what they ask for. Want of memory is no refusal of theirs.
+pub record IsRefused (ws : List (List ℕ)) (old : ShelfView) (r : Refusal) (new : ShelfView) : Type 0 where
+  pub cause : ((place : ℕ) × (r ≡ Words place) × words.IsRefused ws (Refused place) × (new ≡ old))
+      ⊎ ((request : requests.Words) × words.Asks ws request × IsRefusalOf request old r new)
 
-abbrev pub status_of : Refusal → ℕ
-status_of (Words place) = 2
-status_of (Stripe f) = stripe_status f
-status_of (NoSuchPosition position) = 5
-status_of (Segment f) = segment_status f
-status_of NotInSequence = 5
-status_of (Test f) = test_status f
-status_of (Plan f) = plan_status f
-status_of Memory = 9
+-- ---- with files that are told
 
--- a line of a text and a number behind it
-abbrev pub line_with : List ℕ → ℕ → List ℕ
-line_with text number = text ++ decimal number ++ 10 ∷ []
+-- a file of which a part can be cut is too long, or else its bytes are refused
+pub record RefusesFileAmong (files : FileList) (file : TestFile) (r : Refusal) : Type 0 where
+  pub cuttable : IsCuttable file.segment file.sequence
+  pub cause : ((r ≡ TooLong 1) × (most_bytes < length (bytes_of file.name files)))
+      ⊎ ((length (bytes_of file.name files) ≤ most_bytes)
+      × RefusesCutTest file.segment file.sequence (bytes_of file.name files) file.limit r)
 
--- the line for want of memory
-abbrev pub memory_line : List ℕ
-memory_line = codes "error memory\n"
-
--- the line that says a fault of weights
-abbrev pub stripe_line : StripeFault → List ℕ
-stripe_line stripes.NoWeights = codes "error 20 NoWeights\n"
-stripe_line stripes.TooMany = codes "error 17 TooMany\n"
-stripe_line (stripes.ZeroWeight position) = line_with (codes "error 21 ZeroWeight ") position
-stripe_line (stripes.PeriodTooLarge period) = line_with (codes "error 16 PeriodTooLarge ") period
-stripe_line stripes.Memory = memory_line
-
--- the number and the name of a fault of a number, with a space behind it
-abbrev pub number_name : NumFault → List ℕ
-number_name numbers.Empty = codes "error 1 Empty "
-number_name numbers.BadDigit = codes "error 2 BadDigit "
-number_name numbers.ZeroDenominator = codes "error 3 ZeroDenominator "
-number_name numbers.TooLarge = codes "error 4 TooLarge "
-number_name numbers.BadUnit = codes "error 5 BadUnit "
-number_name numbers.NotWhole = codes "error 6 NotWhole "
-number_name numbers.Memory = codes "error memory "
-
--- the line that says a fault of a segment or a sequence
-abbrev pub segment_line : SegmentFault → List ℕ
-segment_line (cuts.Number at fault) = line_with (number_name fault) at
-segment_line (cuts.BelowZero at) = line_with (codes "error 10 BelowZero ") at
-segment_line (cuts.NotLess at) = line_with (codes "error 11 NotLess ") at
-segment_line (cuts.AboveOne at) = line_with (codes "error 12 AboveOne ") at
-segment_line (cuts.Gap at) = line_with (codes "error 13 Gap ") at
-segment_line cuts.FewPoints = codes "error 14 FewPoints\n"
-segment_line (cuts.PeriodTooLarge period) = line_with (codes "error 16 PeriodTooLarge ") period
-segment_line cuts.TooMany = codes "error 17 TooMany\n"
-segment_line cuts.Memory = memory_line
-
--- a line of a text and a path behind it
-abbrev pub line_at : List ℕ → List ℕ → List ℕ
-line_at text path = text ++ path ++ 10 ∷ []
-
--- a line of a text and two numbers behind it
-abbrev pub line_with_two : List ℕ → ℕ → ℕ → List ℕ
-line_with_two text one two = text ++ decimal one ++ 32 ∷ decimal two ++ 10 ∷ []
-
--- the line that says a fault of a test
-abbrev pub test_line : OptionsFault → List ℕ
-test_line options.NotJson = codes "error 40 NotJson\n"
-test_line (options.Missing path) = line_at (codes "error 41 Missing ") path
-test_line (options.WrongKind path) = line_at (codes "error 42 WrongKind ") path
-test_line (options.Unknown path) = line_at (codes "error 43 Unknown ") path
-test_line (options.BadName path) = line_at (codes "error 60 BadName ") path
-test_line (options.BadExecutor path) = line_at (codes "error 61 BadExecutor ") path
-test_line (options.Range path) = line_at (codes "error 62 Range ") path
-test_line (options.MaxBelowPre path) = line_at (codes "error 64 MaxBelowPre ") path
-test_line (options.ScriptUnknown path) = line_at (codes "error 65 ScriptUnknown ") path
-test_line (options.Number path fault) = line_at (number_name fault) path
-test_line options.Memory = memory_line
-
--- the line that says a fault of a plan
-abbrev pub plan_line : PlanFault → List ℕ
-plan_line plans.NotInSequence = codes "error 15 NotInSequence\n"
-plan_line (plans.PeriodTooLarge period) = line_with (codes "error 16 PeriodTooLarge ") period
-plan_line (plans.TooManyArrivals scenario count) = line_with_two (codes "error 31 TooManyArrivals ") scenario count
-plan_line (plans.JournalTooSmall needed limit) = line_with_two (codes "error 81 JournalTooSmall ") needed limit
-plan_line plans.Memory = memory_line
-
--- the line that says a refusal
-abbrev pub line_of : Refusal → List ℕ
-line_of (Words place) = line_with (codes "error words ") place
-line_of (Stripe f) = stripe_line f
-line_of (NoSuchPosition position) = line_with (codes "error 22 NoSuchPosition ") position
-line_of (Segment f) = segment_line f
-line_of NotInSequence = codes "error 15 NotInSequence\n"
-line_of (Test f) = test_line f
-line_of (Plan f) = plan_line f
-line_of Memory = memory_line
+-- the words are refused so for the file that they name, where these are the files
+pub record IsRefusedAmong (files : FileList) (ws : List (List ℕ)) (r : Refusal) : Type 0 where
+  pub request : requests.Words
+  pub asks : words.Asks ws request
+  pub file : TestFile
+  pub file_is : file_of request ≡ Some file
+  pub refused : RefusesFileAmong files file r

@@ -1,7 +1,7 @@
 -- What the desk puts on its two sinks.
 use Rattle.std.specs.Prelude.{◌≡◌, ◌≤◌, ◌⊎◌, [], ℕ, List, codes}
 use Rattle.ld_outside.specs.SinkView.{SinkView, Took, TookFront, Rose}
-use Rattle.ld_run.specs.Refusal.{line_of, memory_line, status_of}
+use Rattle.ld_run.specs.RefusalLine.{line_of, memory_line, status_of}
 use Rattle.ld_run.specs.declared.refusal.Refusal.{Refusal}
 
 -- nothing was put on the sink, and no fault of it was counted

@@ -5,7 +5,7 @@ use Rattle.ld_stripe.specs.StripeFault as stripe
 use Rattle.ld_stripe.specs.declared.fault.StripeFault.{StripeFault}
 use Rattle.ld_run.specs.Indices.{numbers_line, owned_below}
 use Rattle.ld_run.specs.declared.refusal.Refusal.{Refusal}
-use Rattle.ld_run.specs.declared.refusal.Refusal.TheVariants.{Words, Stripe, NoSuchPosition, Segment, NotInSequence, Test, Plan, Memory}
+use Rattle.ld_run.specs.declared.refusal.Refusal.TheVariants.{Words, Stripe, NoSuchPosition, Segment, NotInSequence, Read, TooLong, Test, Plan, Memory}
 
 -- the weights have a striping: no fault of theirs comes
 abbrev pub IsAccepted : List ℕ → Type 0
@@ -19,6 +19,8 @@ IsWeightsRefusal weights position (NoSuchPosition p) =
 IsWeightsRefusal weights position (Words place) = ⊥
 IsWeightsRefusal weights position (Segment f) = ⊥
 IsWeightsRefusal weights position NotInSequence = ⊥
+IsWeightsRefusal weights position Read = ⊥
+IsWeightsRefusal weights position (TooLong place) = ⊥
 IsWeightsRefusal weights position (Test f) = ⊥
 IsWeightsRefusal weights position (Plan f) = ⊥
 IsWeightsRefusal weights position Memory = ⊥

@@ -1,13 +1,26 @@
 // The laws of the answers, over all words.
 ghost use Rattle.std.specs.Prelude.{◌≡◌, ℕ, List, None};
-ghost use Rattle.ld_run.specs.Refusal.{HasAnswer, IsRefused, status_of};
+ghost use Rattle.ld_outside.specs.ShelfView.{Became, FileList, ShelfView};
+ghost use Rattle.ld_words.specs.Words.{Asks};
+ghost use Rattle.ld_words.specs.declared.words.Words.{Words};
+ghost use Rattle.ld_run.specs.Answered.{HasAnswer, IsAnswerOf};
+ghost use Rattle.ld_run.specs.Refusal.{IsRefusedAmong, IsRefusedUnread};
+ghost use Rattle.ld_run.specs.RefusalLine.{status_of};
 ghost use Rattle.ld_run.specs.declared.answer.Answer.{Answer};
 ghost use Rattle.ld_run.specs.declared.refusal.Refusal.{Refusal};
 
-/// Words that write no file have one answer. The refusals of words have one status, and words that have an
-/// answer aren't refused.
+/// Words that write no file have one answer, where the file that they name has these bytes. The refusals of words
+/// without a file have one status, and so have those for the file that they name, among the same files; there are
+/// none of the second where there is one of the first. Words that have an answer aren't refused.
 pub fn one_answer()
-    ensures text { (words : List (List ℕ)) (a b : Answer) → HasAnswer words a → HasAnswer words b → a.file ≡ None → a ≡ b }
-    ensures status { (words : List (List ℕ)) (r s : Refusal) → IsRefused words r → IsRefused words s → status_of r ≡ status_of s }
-    ensures apart { (words : List (List ℕ)) (answer : Answer) (r : Refusal) → HasAnswer words answer → IsRefused words r → ⊥ }
+    ensures text { (words : List (List ℕ)) (p q : Words) (test : List ℕ) (a b : Answer) → Asks words p → Asks words q →
+        IsAnswerOf p test a → IsAnswerOf q test b → a.file ≡ None → a ≡ b }
+    ensures unread { (words : List (List ℕ)) (r s : Refusal) → IsRefusedUnread words r → IsRefusedUnread words s → status_of r ≡ status_of s }
+    ensures among { (files : FileList) (words : List (List ℕ)) (r s : Refusal) → IsRefusedAmong files words r → IsRefusedAmong files words s →
+        status_of r ≡ status_of s }
+    ensures first { (files : FileList) (words : List (List ℕ)) (r s : Refusal) → IsRefusedUnread words r → IsRefusedAmong files words s → ⊥ }
+    ensures answered { (words : List (List ℕ)) (shelf read : ShelfView) (answer : Answer) (r : Refusal) →
+        HasAnswer words shelf answer read → IsRefusedUnread words r → ⊥ }
+    ensures answered_among { (words : List (List ℕ)) (shelf read : ShelfView) (answer : Answer) →
+        HasAnswer words shelf answer read → Became shelf (λ before now. (r : Refusal) → IsRefusedAmong before.files words r → ⊥) read }
 {}

@@ -2,12 +2,16 @@
 #![tactic(auto)]
 
 mod answer;
+mod delivery;
 mod desk;
+mod help;
 mod indices;
 mod laws;
+mod plan;
 mod refusal;
 mod rehearsal;
 mod stripe;
+mod test_file;
 mod text;
 
 pub use answer::{Answer, NamedFile};

@@ -29,6 +29,12 @@ pub enum Refusal {
     /// The sequence has no segment that is equal to this one.
     #[error("the segment isn't in the sequence")]
     NotInSequence,
+    /// The test's file wasn't read.
+    #[error("the test wasn't read")]
+    Read,
+    /// The file that the word at this place names is too long.
+    #[error("the file at place {0} is too long")]
+    TooLong(usize),
     /// The test's document is refused.
     #[error(transparent)]
     Test(OptionsFault),
@@ -42,14 +48,17 @@ pub enum Refusal {
 
 impl Refusal {
     ghost use Rattle.std.specs.Prelude.{◌≡◌, IfOk};
-    ghost use Rattle.ld_run.specs.Refusal.{line_of, status_of};
+    ghost use Rattle.ld_run.specs.RefusalLine.{line_of, status_of};
 
-    /// The status that the program ends with: 2 for words, 5 for what they name, 9 for memory.
+    /// The status that the program ends with: 2 for words, 3 for a file that wasn't read, 11 for one that is
+    /// too long, 5 for what is refused of all that they name, 9 for memory.
     pub fn status(&self) -> u8
         ensures { result ≡ status_of self.now }
     {
         match self {
             Refusal::Words(_) => 2,
+            Refusal::Read => 3,
+            Refusal::TooLong(_) => 11,
             Refusal::Stripe(StripeFault::Memory)
             | Refusal::Segment(SegmentFault::Memory)
             | Refusal::Test(OptionsFault::Memory)
@@ -76,6 +85,8 @@ impl Refusal {
             }
             Refusal::Segment(fault) => segment_line(alloc, fault),
             Refusal::NotInSequence => Ok(Vec::from_slice(alloc, b"error 15 NotInSequence\n")?),
+            Refusal::Read => Ok(Vec::from_slice(alloc, b"error read\n")?),
+            Refusal::TooLong(place) => line_with(alloc, b"error too-long ", *place as u64),
             Refusal::Test(fault) => test_line(alloc, fault),
             Refusal::Plan(fault) => plan_line(alloc, fault),
             Refusal::Memory => Ok(Vec::from_slice(alloc, b"error memory\n")?),

@@ -1,72 +1,50 @@
 // The answer of `rehearse`.
-ghost use Rattle.std.specs.Prelude.{◌≡◌, ◌≢◌, ◌≤◌, ◌∷◌, [], MatchResult, length};
+ghost use Rattle.std.specs.Prelude.{◌≡◌, ◌≤◌, ◌∷◌, [], MatchResult, length};
 ghost use Rattle.ld_journal.specs.Journal.{journal_text};
 ghost use Rattle.ld_journal.specs.Writable.{IsWritable};
 ghost use Rattle.ld_machine.specs.History.{IsLegal};
 ghost use Rattle.ld_summary.specs.Summary.{summary_text};
-ghost use Rattle.ld_run.specs.Rehearsal.{entry_limit, header_of, IsRehearsalAnswer, IsRehearsalRefusal, IsWholePlan};
-ghost use Rattle.ld_run.specs.declared.refusal.Refusal.{Refusal};
+ghost use Rattle.ld_run.specs.Rehearsal.{header_of, IsRehearsalAnswer};
 
 use crate::answer::{Answer, NamedFile};
 use crate::refusal::Refusal;
-use crate::stripe::read_cut;
+use crate::test_file::PlannedTest;
 use ld_base::{Bytes, History, Text};
 use ld_journal::{Header, write};
-use ld_options::Options;
 use ld_plan::Plan;
 use ld_rehearsal::{Rehearsed, rehearse};
 use ld_summary::summary_text;
 use std::alloc::Global;
 use std::slice;
 
-/// How many entries a journal may have, where the words don't say it.
-const MOST_ENTRIES: u32 = 1_000_000;
-
-// The answer of a rehearsal of the whole of a test, with at most so many entries and with iterations of this
-// length, in nanoseconds. The journal has this name.
+// The answer of a rehearsal of a test's plan with iterations of this length, in nanoseconds. The journal
+// has this name.
 pub fn rehearsal_answer(
     alloc: Global,
-    test: &[u8],
-    entries: Option<u32>,
+    test: PlannedTest,
     iteration: u64,
     journal: &Text,
 ) -> Result<Answer, Refusal>
-    requires short { length test.now ≤ 1048576 }
+    requires short { length test.text.items ≤ 1048576 }
     requires lasts { 1 ≤ iteration }
-    requires least { 10 ≤ entry_limit entries }
-    requires most { entry_limit entries ≤ 1000000 }
     ensures { MatchResult result
-        (IsRehearsalAnswer test.now (entry_limit entries) iteration journal.now)
-        (λ refusal. refusal ≢ Refusal.Memory → IsRehearsalRefusal test.now (entry_limit entries) refusal) }
+        (IsRehearsalAnswer test.text.items test.plan iteration journal.now)
+        (λ refusal. refusal ≡ Refusal.Memory) }
 {
-    let limit = entries.unwrap_or(MOST_ENTRIES);
-    let plan = whole_plan(alloc, test, limit)?;
+    let PlannedTest { text: test, plan } = test;
     let Rehearsed {
         plan,
         history,
         full,
     } = rehearse(alloc, plan, iteration)?;
     let text = summary_of(alloc, &plan, &history)?;
-    let bytes = journal_bytes(alloc, test, limit, history)?;
+    let bytes = journal_bytes(alloc, &test, &plan, history)?;
     let name = Text::of(Vec::from_slice(alloc, journal.as_slice())?);
     Ok(Answer {
         file: Some(NamedFile { name, bytes }),
         text,
         full,
     })
-}
-
-// The plan of the whole of a test, where a journal has so many entries.
-fn whole_plan(alloc: Global, test: &[u8], limit: u32) -> Result<Plan, Refusal>
-    requires least { 10 ≤ limit }
-    requires most { limit ≤ 1000000 }
-    ensures { MatchResult result
-        (IsWholePlan test.now limit)
-        (λ refusal. refusal ≢ Refusal.Memory → IsRehearsalRefusal test.now limit refusal) }
-{
-    let (segment, sequence) = read_cut(alloc, &None, &None)?;
-    let options = Options::read(alloc, test)?;
-    Ok(Plan::of(alloc, options, segment, sequence, limit)?)
 }
 
 // The summary of one history.
@@ -81,30 +59,42 @@ fn summary_of(alloc: Global, plan: &Plan, history: &History) -> Result<Text, Ref
     Ok(Text::of(text))
 }
 
-// The journal of a history of a test that is played whole.
-fn journal_bytes(alloc: Global, test: &[u8], limit: u32, history: History) -> Result<Bytes, Refusal>
-    requires { IsWritable (header_of test.now limit) history.entries }
+// The journal of a history of a test's plan.
+fn journal_bytes(
+    alloc: Global,
+    test: &[u8],
+    plan: &Plan,
+    history: History,
+) -> Result<Bytes, Refusal>
+    requires { IsWritable (header_of test.now plan.now) history.entries }
     ensures { MatchResult result
-        (λ bytes. bytes ≡ journal_text (header_of test.now limit) history.entries)
+        (λ bytes. bytes ≡ journal_text (header_of test.now plan.now) history.entries)
         (λ refusal. refusal ≡ Refusal.Memory) }
 {
-    let header = whole_header(alloc, test, limit)?;
+    let header = header_of(alloc, test, plan)?;
     let entries = history.into_entries();
     let mut bytes = Vec::new(alloc);
     write(&header, &entries, &mut bytes)?;
     Ok(Bytes::of(bytes))
 }
 
-// The header of the journal of a test that is played whole.
-fn whole_header(alloc: Global, test: &[u8], limit: u32) -> Result<Header, Refusal>
+// The header of the journal of a test's plan.
+fn header_of(alloc: Global, test: &[u8], plan: &Plan) -> Result<Header, Refusal>
     ensures { MatchResult result
-        (λ header. header ≡ header_of test.now limit)
+        (λ header. header ≡ header_of test.now plan.now)
         (λ refusal. refusal ≡ Refusal.Memory) }
 {
+    let test = Bytes::of(Vec::from_slice(alloc, test)?);
+    let mut segment = Vec::new(alloc);
+    plan.sequence()
+        .segment(plan.position())
+        .print(&mut segment)?;
+    let mut sequence = Vec::new(alloc);
+    plan.sequence().print(&mut sequence)?;
     Ok(Header {
-        test: Bytes::of(Vec::from_slice(alloc, test)?),
-        segment: Text::of(Vec::from_slice(alloc, b"0:1")?),
-        sequence: Text::of(Vec::from_slice(alloc, b"0,1")?),
-        entries: limit,
+        test,
+        segment: Text::of(segment),
+        sequence: Text::of(sequence),
+        entries: plan.entries(),
     })
 }

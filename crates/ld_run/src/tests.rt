@@ -56,6 +56,13 @@ fn answers_words(rt: HostRuntime) -> Result<(), Fail> {
             "users 1 2\nscenario main planned 2 started 2 done 2 interrupted 0 dropped 0 late 0\n",
             "",
         ),
+        (
+            "help",
+            0,
+            "load stripe WEIGHTS POSITION N\nload stripe N [--segment S] [--sequence S]\nload plan TEST [--segment S] [--sequence S] [--entries N] [--list]\nload rehearse TEST --iteration D --journal NAME [--segment S] [--sequence S] [--entries N]\nload rehearse --rate N --unit D --duration D --pre N --max N --iteration D --journal NAME [--entries N]\nload help\n",
+            "",
+        ),
+        ("plan missing", 5, "", "error 40 NotJson\n"),
         ("stripe 1,0 0 5", 5, "", "error 21 ZeroWeight 1\n"),
         ("strip 1 0 1", 2, "", "error words 0\n"),
     ];

@@ -1,7 +1,7 @@
 // Lines of text.
 ghost use Rattle.std.specs.Prelude.{◌≡◌, IfOk};
 ghost use Rattle.ld_run.specs.Answer.{full_line, room_word};
-ghost use Rattle.ld_run.specs.Refusal.{line_at, line_with, line_with_two, number_name, plan_line, segment_line, stripe_line, test_line};
+ghost use Rattle.ld_run.specs.RefusalLine.{line_at, line_with, line_with_two, number_name, plan_line, segment_line, stripe_line, test_line};
 
 use ld_base::{BaseFault, Room, put_number};
 use ld_json::Path;

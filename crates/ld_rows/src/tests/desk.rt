@@ -73,18 +73,32 @@ fn file(alloc: Global, name: &str, bytes: &str) -> Result<(Text, Bytes), AllocEr
     Ok((name, bytes))
 }
 
-// The files before a command.
-fn files(alloc: Global) -> Result<Files, Fail> {
+// The files before a command: a test, where there is one, and two that are no tests.
+fn files(alloc: Global, test: Option<&str>) -> Result<Files, Fail> {
     let old = file(alloc, "j", OLD)?;
     let kept = file(alloc, "k", KEPT)?;
-    Ok(Files::of(vec![in alloc; old, kept]?))
+    let mut files = vec![in alloc; old, kept]?;
+    if let Some(text) = test {
+        files.push(file(alloc, "t", text)?)?;
+    }
+    Ok(Files::of(files))
 }
 
 /// Carries out the command of a line, on a shelf of two files.
 pub fn play<R: AllocGlobal>(rt: &R, line: &str, failing: Failing<'_>) -> Result<Played, Fail> {
+    play_test(rt, line, None, failing)
+}
+
+/// Carries out the command of a line, on a shelf that has the test `t` too, where there is one.
+pub fn play_test<R: AllocGlobal>(
+    rt: &R,
+    line: &str,
+    test: Option<&str>,
+    failing: Failing<'_>,
+) -> Result<Played, Fail> {
     let alloc = rt.alloc();
     let words = split(alloc, line)?;
-    let mut shelf = MemShelf::new(alloc, files(alloc)?, numbers(alloc, failing.shelf)?);
+    let mut shelf = MemShelf::new(alloc, files(alloc, test)?, numbers(alloc, failing.shelf)?);
     let mut out = MemSink::new(alloc, numbers(alloc, failing.out)?);
     let mut err = MemSink::new(alloc, numbers(alloc, failing.err)?);
     let status = command(rt, &words, &mut shelf, &mut out, &mut err);

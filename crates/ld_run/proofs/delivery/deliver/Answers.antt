@@ -1,5 +1,5 @@
 use Rattle.ld_run.proofs.DeliveryLemmas.{file_lacked, text_failed, text_lacked, text_written}
-use Rattle.ld_run.proofs.desk.deliver.Goals as goal
+use Rattle.ld_run.proofs.delivery.deliver.Goals as goal
 
 pub returns-in-Err-Memory : goal.returns-in-Err-Memory
 returns-in-Err-Memory g c =

@@ -1,8 +1,8 @@
 -- The text of a test is short.
-use Rattle.std.proofs.Common.{◌≡◌, ◌<◌, ◌≤◌, ◌^◌, ◌++◌, ◌∙◌, List, ℕ, ap, length, arith, subst, sym}
+use Rattle.std.proofs.Common.{◌<◌, ◌≤◌, ◌^◌, ◌++◌, ◌∙◌, List, ℕ, ap, length, arith, subst, sym}
 use Rattle.ld_words.specs.RateTest.{rate_test}
 use Rattle.ld_run.proofs.RehearsalLemmas.{test_short}
-use Rattle.ld_run.proofs.desk.rate_test.Goals as goal
+use Rattle.ld_run.proofs.test_file.rate_test.Goals as goal
 
 pub returns : goal.returns
 returns c =

@@ -1,6 +1,6 @@
 use Rattle.std.proofs.Common.{inr}
 use Rattle.ld_run.proofs.SayingLemmas.{said_memory}
-use Rattle.ld_run.proofs.desk.refuse.Goals as goal
+use Rattle.ld_run.proofs.delivery.refuse.Goals as goal
 
 pub returns-in-Err : goal.returns-in-Err
 returns-in-Err g c =
