@@ -1,5 +1,67 @@
 use super::*;
 use std::cmp::Ordering;
+use std::test::Fail;
+
+// Texts, and the fractions in lowest terms that they are written for, or why they are refused.
+const FRACTIONS: &str = "\
+1/3 => 1/3
+2/6 => 1/3
+0/5 => 0/1
+2 => 2/1
+0.25 => 1/4
+0.5 => 1/2
+25% => 1/4
+2.5% => 1/40
+101% => 101/100
+999999999.000000001% => 999999999000000001/100000000000
+=> Empty
+/ => BadDigit
+-1/4 => BadDigit
++1 => BadDigit
+1/2% => BadDigit
+1/0.5 => BadDigit
+.5 => BadDigit
+5. => BadDigit
+5%% => BadDigit
+% => BadDigit
+1234567890 => TooLarge
+1234567890/0 => TooLarge
+1/0 => ZeroDenominator
+0/000 => ZeroDenominator";
+
+// Texts, and their nanoseconds, or why they are refused.
+const DURATIONS: &str = "\
+1.5s => 1500000000
+1h30m => 5400000000000
+1500 => 1500000000
+0.000001 => 1
+30d => 2592000000000000
+0 => 0
+5.s.5s => 5500000000
+3us => 3000
+3\u{b5}s3\u{3bc}s => 6000
+1d1h1m1s1ms1us1ns => 90061001001001
+=> Empty
+s => BadDigit
+.s => BadDigit
+1.2.3s => BadDigit
+1h30 => BadDigit
+-1s => BadDigit
+5x => BadUnit
+1 s => BadUnit
+12345678901234567s5x => BadUnit
+2592000001ms => TooLarge
+30d0.1ns => TooLarge
+0.0000000000s => TooLarge
+9999999999999999d9999999999999999d => TooLarge
+0.1ns => NotWhole
+0.5ns0.5ns => NotWhole";
+
+// The two columns of a row, around an arrow.
+fn columns(row: &str) -> (&str, &str) {
+    let (left, right) = row.split_once("=>").unwrap_or((row, ""));
+    (left.trim(), right.trim())
+}
 
 #[test]
 fn divides(rt: HostRuntime) {
@@ -32,46 +94,17 @@ fn multiplies(rt: HostRuntime) {
     }
 }
 
-// What is read of a text, as the numbers of the fraction.
-fn parts_of(text: &str) -> Result<(u64, u64), NumFault> {
-    let fraction = Frac::read(text.as_bytes())?;
-    Ok((fraction.num, fraction.den))
-}
-
 #[test]
-fn reads_fractions(rt: HostRuntime) {
-    let table = [
-        ("1/3", Ok((1, 3))),
-        ("2/6", Ok((1, 3))),
-        ("0/5", Ok((0, 1))),
-        ("2", Ok((2, 1))),
-        ("0.25", Ok((1, 4))),
-        ("0.5", Ok((1, 2))),
-        ("25%", Ok((1, 4))),
-        ("2.5%", Ok((1, 40))),
-        ("101%", Ok((101, 100))),
-        (
-            "999999999.000000001%",
-            Ok((999_999_999_000_000_001, 100_000_000_000)),
-        ),
-        ("", Err(NumFault::Empty)),
-        ("/", Err(NumFault::BadDigit)),
-        ("-1/4", Err(NumFault::BadDigit)),
-        ("+1", Err(NumFault::BadDigit)),
-        ("1/2%", Err(NumFault::BadDigit)),
-        ("1/0.5", Err(NumFault::BadDigit)),
-        (".5", Err(NumFault::BadDigit)),
-        ("5.", Err(NumFault::BadDigit)),
-        ("5%%", Err(NumFault::BadDigit)),
-        ("%", Err(NumFault::BadDigit)),
-        ("1234567890", Err(NumFault::TooLarge)),
-        ("1234567890/0", Err(NumFault::TooLarge)),
-        ("1/0", Err(NumFault::ZeroDenominator)),
-        ("0/000", Err(NumFault::ZeroDenominator)),
-    ];
-    for (text, want) in &table {
-        assert!(rt; parts_of(text) == *want, "of {text}");
+fn reads_fractions(rt: HostRuntime) -> Result<(), Fail> {
+    for row in FRACTIONS.lines() {
+        let (text, want) = columns(row);
+        let said = match Frac::read(text.as_bytes()) {
+            Ok(fraction) => format!(in rt.alloc(); "{}/{}", fraction.num, fraction.den)?,
+            Err(fault) => format!(in rt.alloc(); "{fault:?}")?,
+        };
+        assert_eq!(rt; said.as_str(), want, "{row}");
     }
+    Ok(())
 }
 
 #[test]
@@ -105,38 +138,14 @@ fn prints_durations(rt: HostRuntime) -> Result<(), NumFault> {
 }
 
 #[test]
-fn reads_durations(rt: HostRuntime) {
-    let table = [
-        ("1.5s", Ok(1_500_000_000)),
-        ("1h30m", Ok(5_400_000_000_000)),
-        ("1500", Ok(1_500_000_000)),
-        ("0.000001", Ok(1)),
-        ("30d", Ok(2_592_000_000_000_000)),
-        ("0", Ok(0)),
-        ("5.s.5s", Ok(5_500_000_000)),
-        ("3us", Ok(3_000)),
-        ("3\u{b5}s3\u{3bc}s", Ok(6_000)),
-        ("1d1h1m1s1ms1us1ns", Ok(90_061_001_001_001)),
-        ("", Err(NumFault::Empty)),
-        ("s", Err(NumFault::BadDigit)),
-        (".s", Err(NumFault::BadDigit)),
-        ("1.2.3s", Err(NumFault::BadDigit)),
-        ("1h30", Err(NumFault::BadDigit)),
-        ("-1s", Err(NumFault::BadDigit)),
-        ("5x", Err(NumFault::BadUnit)),
-        ("1 s", Err(NumFault::BadUnit)),
-        ("12345678901234567s5x", Err(NumFault::BadUnit)),
-        ("2592000001ms", Err(NumFault::TooLarge)),
-        ("30d0.1ns", Err(NumFault::TooLarge)),
-        ("0.0000000000s", Err(NumFault::TooLarge)),
-        (
-            "9999999999999999d9999999999999999d",
-            Err(NumFault::TooLarge),
-        ),
-        ("0.1ns", Err(NumFault::NotWhole)),
-        ("0.5ns0.5ns", Err(NumFault::NotWhole)),
-    ];
-    for (text, want) in &table {
-        assert!(rt; read_duration(text.as_bytes()) == *want, "of {text}");
+fn reads_durations(rt: HostRuntime) -> Result<(), Fail> {
+    for row in DURATIONS.lines() {
+        let (text, want) = columns(row);
+        let said = match read_duration(text.as_bytes()) {
+            Ok(length) => format!(in rt.alloc(); "{length}")?,
+            Err(fault) => format!(in rt.alloc(); "{fault:?}")?,
+        };
+        assert_eq!(rt; said.as_str(), want, "{row}");
     }
+    Ok(())
 }

@@ -22,26 +22,124 @@ const MEMBERS: [(&str, &str); 10] = [
     ("env", ""),
 ];
 
-// Why options are refused.
-#[derive(Clone, Copy, Debug, PartialEq, Eq)]
-enum Cause {
-    NotJson,
-    Missing,
-    WrongKind,
-    Unknown,
-    BadName,
-    BadExecutor,
-    Range,
-    MaxBelowPre,
-    ScriptUnknown,
-    Empty,
-    BadDigit,
-    TooLarge,
-    BadUnit,
-    NotWhole,
-    None,
-    Other,
-}
+// Documents whose root, options or scripts are refused, with the cause and the path. `@` stands for a good scenario.
+const DOCUMENTS: &str = r#"=> NotJson
+{ => NotJson
+{"limits":1.0} => NotJson
+{"options":1e3} => NotJson
+[-1] => NotJson
+{"options":{"a!":-0}} => NotJson
+{"scripts":{"a!":18446744073709551616}} => NotJson
+[] => WrongKind
+null => WrongKind
+{} => Missing /options
+{"a~/b":0,"options":[]} => Unknown /a~0~1b
+{"options":{"scenarios":{"main":@}},"scripts":{"second":[]},"vus":1} => Unknown /vus
+{"scripts":{"second":[]}} => Missing /options
+{"options":null,"scripts":{}} => WrongKind /options
+{"options":[],"scripts":[]} => WrongKind /options
+{"options":[]} => WrongKind /options
+{"options":{"vus":1}} => Missing /scripts
+{"options":{"scenarios":{"main":@}}} => Missing /scripts
+{"options":{},"scripts":[]} => WrongKind /scripts
+{"options":{"scenarios":{"main":@}},"scripts":0} => WrongKind /scripts
+{"options":{},"scripts":{}} => Missing /options/scenarios
+{"options":{"thresholds":{},"scenarios":{"main":@}},"scripts":{"second":[]}} => Unknown /options/thresholds
+{"options":{"/~":{}},"scripts":{"a!":1}} => Unknown /options/~1~0
+{"options":{"scenarios":[@]},"scripts":{"second":[]}} => WrongKind /options/scenarios
+{"options":{"scenarios":"main"},"scripts":{"a!":1}} => WrongKind /options/scenarios
+{"options":{"scenarios":{}},"scripts":{"a":1}} => Range /options/scenarios
+{"options":{"scenarios":{"main":@,"other":@}},"scripts":{"second":[]}} => Range /options/scenarios
+{"options":{"scenarios":{"a!":1,"b!":2}},"scripts":{"a!":1}} => Range /options/scenarios
+{"options":{"scenarios":{"a!":1}},"scripts":{"b":[],"a~/":1}} => BadName /scripts/a~0~1
+{"options":{"scenarios":{"a!":1}},"scripts":{"a":{}}} => WrongKind /scripts/a
+{"options":{"scenarios":{"main":@}},"scripts":{"second":[{"sleep":"1s"}]}} => Range /scripts/second
+{"options":{"scenarios":{"main":{}}},"scripts":{"b":[1],"a":0}} => WrongKind /scripts/a
+{"options":{"scenarios":{"a/b~c":@}},"scripts":{"second":[]}} => BadName /options/scenarios/a~1b~0c
+{"options":{"scenarios":{"":[]}},"scripts":{}} => BadName /options/scenarios/
+{"options":{"scenarios":{"a b":{"vus":1}}},"scripts":{}} => BadName /options/scenarios/a b
+{"options":{"scenarios":{"a":[@]}},"scripts":{"second":[]}} => WrongKind /options/scenarios/a
+{"options":{"scenarios":{"a":{}}},"scripts":{}} => Missing /options/scenarios/a/executor
+{"options":{"scenarios":{"a":@}},"scripts":{}} => ScriptUnknown /options/scenarios/a/exec"#;
+
+// Members of a good scenario that have another value or aren't there, with the cause.
+const CHANGES: &str = r#"env {} => Unknown
+executor => Missing
+executor null => WrongKind
+executor "fast" => BadExecutor
+executor "" => BadExecutor
+executor "constant-arrival-rates" => BadExecutor
+startTime true => WrongKind
+startTime "" => Empty
+startTime "abc" => BadDigit
+startTime "-1s" => BadDigit
+startTime "1x" => BadUnit
+startTime "0.1ns" => NotWhole
+startTime "31d" => TooLarge
+startTime 2592000001 => TooLarge
+gracefulStop [] => WrongKind
+gracefulStop "" => Empty
+gracefulStop "1 s" => BadUnit
+gracefulStop "30d1ns" => TooLarge
+exec 1 => WrongKind
+exec null => WrongKind
+exec "third" => ScriptUnknown
+exec "Second" => ScriptUnknown
+exec "" => ScriptUnknown
+rate => Missing
+rate "20" => WrongKind
+rate 0 => Range
+rate 1000001 => Range
+rate 18446744073709551615 => Range
+timeUnit {} => WrongKind
+timeUnit "0s" => Range
+timeUnit 0 => Range
+timeUnit "25h" => Range
+timeUnit "1d1ns" => Range
+timeUnit 86400001 => Range
+timeUnit "31d" => TooLarge
+duration => Missing
+duration true => WrongKind
+duration null => WrongKind
+duration "0s" => Range
+duration 0 => Range
+duration "31d" => TooLarge
+duration 18446744073709551615 => TooLarge
+duration "" => Empty
+duration "1x" => BadUnit
+duration "0.1ns" => NotWhole
+duration "abc" => BadDigit
+preAllocatedVUs => Missing
+preAllocatedVUs "4" => WrongKind
+preAllocatedVUs 1001 => Range
+maxVUs null => WrongKind
+maxVUs 0 => MaxBelowPre
+maxVUs 3 => MaxBelowPre
+maxVUs 1001 => Range"#;
+
+// Two changes, with the cause of the second.
+const PAIRS_OF_CHANGES: &str = r#"env 1, executor => Missing
+env 1, executor 1 => WrongKind
+env 1, executor "fast" => BadExecutor
+rate, env 1 => Unknown
+startTime true, env 1 => Unknown
+gracefulStop true, startTime "31d" => TooLarge
+exec 1, gracefulStop "1x" => BadUnit
+exec 1, startTime "" => Empty
+rate, exec "third" => ScriptUnknown
+rate true, exec 1 => WrongKind
+timeUnit true, rate 0 => Range
+duration, rate 1000001 => Range
+duration, timeUnit "25h" => Range
+preAllocatedVUs, duration 0 => Range
+preAllocatedVUs, rate => Missing
+maxVUs true, duration => Missing
+maxVUs true, preAllocatedVUs 1001 => Range
+maxVUs 1000, preAllocatedVUs 1001 => Range
+maxVUs 0, preAllocatedVUs => Missing
+preAllocatedVUs 3, maxVUs 2 => MaxBelowPre
+preAllocatedVUs 0, maxVUs => Range
+preAllocatedVUs 0, maxVUs 0 => Range"#;
 
 // What a scenario is read as.
 #[derive(Clone, Copy, Debug)]
@@ -162,155 +260,17 @@ fn lists_are_made(rt: HostRuntime) -> Result<(), Fail> {
     Ok(())
 }
 
-/// Documents whose root, options or scripts are refused, and how. `@` stands for a good scenario.
+/// Documents whose root, options or scripts are refused, and how.
 #[test]
 fn documents_are_refused(rt: HostRuntime) -> Result<(), Fail> {
     let alloc = rt.alloc();
     let good = scenario(alloc, &[])?;
-    let table = [
-        ("", Cause::NotJson, ""),
-        ("{", Cause::NotJson, ""),
-        (r#"{"limits":1.0}"#, Cause::NotJson, ""),
-        (r#"{"options":1e3}"#, Cause::NotJson, ""),
-        (r#"[-1]"#, Cause::NotJson, ""),
-        (r#"{"options":{"a!":-0}}"#, Cause::NotJson, ""),
-        (
-            r#"{"scripts":{"a!":18446744073709551616}}"#,
-            Cause::NotJson,
-            "",
-        ),
-        ("[]", Cause::WrongKind, ""),
-        ("null", Cause::WrongKind, ""),
-        ("{}", Cause::Missing, "/options"),
-        (r#"{"a~/b":0,"options":[]}"#, Cause::Unknown, "/a~0~1b"),
-        (
-            r#"{"options":{"scenarios":{"main":@}},"scripts":{"second":[]},"vus":1}"#,
-            Cause::Unknown,
-            "/vus",
-        ),
-        (r#"{"scripts":{"second":[]}}"#, Cause::Missing, "/options"),
-        (
-            r#"{"options":null,"scripts":{}}"#,
-            Cause::WrongKind,
-            "/options",
-        ),
-        (
-            r#"{"options":[],"scripts":[]}"#,
-            Cause::WrongKind,
-            "/options",
-        ),
-        (r#"{"options":[]}"#, Cause::WrongKind, "/options"),
-        (r#"{"options":{"vus":1}}"#, Cause::Missing, "/scripts"),
-        (
-            r#"{"options":{"scenarios":{"main":@}}}"#,
-            Cause::Missing,
-            "/scripts",
-        ),
-        (
-            r#"{"options":{},"scripts":[]}"#,
-            Cause::WrongKind,
-            "/scripts",
-        ),
-        (
-            r#"{"options":{"scenarios":{"main":@}},"scripts":0}"#,
-            Cause::WrongKind,
-            "/scripts",
-        ),
-        (
-            r#"{"options":{},"scripts":{}}"#,
-            Cause::Missing,
-            "/options/scenarios",
-        ),
-        (
-            r#"{"options":{"thresholds":{},"scenarios":{"main":@}},"scripts":{"second":[]}}"#,
-            Cause::Unknown,
-            "/options/thresholds",
-        ),
-        (
-            r#"{"options":{"/~":{}},"scripts":{"a!":1}}"#,
-            Cause::Unknown,
-            "/options/~1~0",
-        ),
-        (
-            r#"{"options":{"scenarios":[@]},"scripts":{"second":[]}}"#,
-            Cause::WrongKind,
-            "/options/scenarios",
-        ),
-        (
-            r#"{"options":{"scenarios":"main"},"scripts":{"a!":1}}"#,
-            Cause::WrongKind,
-            "/options/scenarios",
-        ),
-        (
-            r#"{"options":{"scenarios":{}},"scripts":{"a":1}}"#,
-            Cause::Range,
-            "/options/scenarios",
-        ),
-        (
-            r#"{"options":{"scenarios":{"main":@,"other":@}},"scripts":{"second":[]}}"#,
-            Cause::Range,
-            "/options/scenarios",
-        ),
-        (
-            r#"{"options":{"scenarios":{"a!":1,"b!":2}},"scripts":{"a!":1}}"#,
-            Cause::Range,
-            "/options/scenarios",
-        ),
-        (
-            r#"{"options":{"scenarios":{"a!":1}},"scripts":{"b":[],"a~/":1}}"#,
-            Cause::BadName,
-            "/scripts/a~0~1",
-        ),
-        (
-            r#"{"options":{"scenarios":{"a!":1}},"scripts":{"a":{}}}"#,
-            Cause::WrongKind,
-            "/scripts/a",
-        ),
-        (
-            r#"{"options":{"scenarios":{"main":@}},"scripts":{"second":[{"sleep":"1s"}]}}"#,
-            Cause::Range,
-            "/scripts/second",
-        ),
-        (
-            r#"{"options":{"scenarios":{"main":{}}},"scripts":{"b":[1],"a":0}}"#,
-            Cause::WrongKind,
-            "/scripts/a",
-        ),
-        (
-            r#"{"options":{"scenarios":{"a/b~c":@}},"scripts":{"second":[]}}"#,
-            Cause::BadName,
-            "/options/scenarios/a~1b~0c",
-        ),
-        (
-            r#"{"options":{"scenarios":{"":[]}},"scripts":{}}"#,
-            Cause::BadName,
-            "/options/scenarios/",
-        ),
-        (
-            r#"{"options":{"scenarios":{"a b":{"vus":1}}},"scripts":{}}"#,
-            Cause::BadName,
-            "/options/scenarios/a b",
-        ),
-        (
-            r#"{"options":{"scenarios":{"a":[@]}},"scripts":{"second":[]}}"#,
-            Cause::WrongKind,
-            "/options/scenarios/a",
-        ),
-        (
-            r#"{"options":{"scenarios":{"a":{}}},"scripts":{}}"#,
-            Cause::Missing,
-            "/options/scenarios/a/executor",
-        ),
-        (
-            r#"{"options":{"scenarios":{"a":@}},"scripts":{}}"#,
-            Cause::ScriptUnknown,
-            "/options/scenarios/a/exec",
-        ),
-    ];
-    for (text, cause, path) in table {
+    for row in DOCUMENTS.lines() {
+        let (text, refusal) = columns(row, "=>");
+        let (cause, path) = columns(refusal, " ");
         let fault = fault_of(alloc, &filled(alloc, text, &good)?);
-        assert_eq!(rt; cause_of(&fault), cause, "{text}");
-        assert!(rt; path_of(&fault) == path.as_bytes(), "{text}");
+        assert_eq!(rt; cause_of(&fault), cause, "{row}");
+        assert!(rt; path_of(&fault) == path.as_bytes(), "{row}");
     }
     Ok(())
 }
@@ -319,69 +279,12 @@ fn documents_are_refused(rt: HostRuntime) -> Result<(), Fail> {
 /// that member.
 #[test]
 fn members_are_refused(rt: HostRuntime) -> Result<(), Fail> {
-    let table = [
-        ("env", "{}", Cause::Unknown),
-        ("executor", "", Cause::Missing),
-        ("executor", "null", Cause::WrongKind),
-        ("executor", r#""fast""#, Cause::BadExecutor),
-        ("executor", r#""""#, Cause::BadExecutor),
-        (
-            "executor",
-            r#""constant-arrival-rates""#,
-            Cause::BadExecutor,
-        ),
-        ("startTime", "true", Cause::WrongKind),
-        ("startTime", r#""""#, Cause::Empty),
-        ("startTime", r#""abc""#, Cause::BadDigit),
-        ("startTime", r#""-1s""#, Cause::BadDigit),
-        ("startTime", r#""1x""#, Cause::BadUnit),
-        ("startTime", r#""0.1ns""#, Cause::NotWhole),
-        ("startTime", r#""31d""#, Cause::TooLarge),
-        ("startTime", "2592000001", Cause::TooLarge),
-        ("gracefulStop", "[]", Cause::WrongKind),
-        ("gracefulStop", r#""""#, Cause::Empty),
-        ("gracefulStop", r#""1 s""#, Cause::BadUnit),
-        ("gracefulStop", r#""30d1ns""#, Cause::TooLarge),
-        ("exec", "1", Cause::WrongKind),
-        ("exec", "null", Cause::WrongKind),
-        ("exec", r#""third""#, Cause::ScriptUnknown),
-        ("exec", r#""Second""#, Cause::ScriptUnknown),
-        ("exec", r#""""#, Cause::ScriptUnknown),
-        ("rate", "", Cause::Missing),
-        ("rate", r#""20""#, Cause::WrongKind),
-        ("rate", "0", Cause::Range),
-        ("rate", "1000001", Cause::Range),
-        ("rate", "18446744073709551615", Cause::Range),
-        ("timeUnit", "{}", Cause::WrongKind),
-        ("timeUnit", r#""0s""#, Cause::Range),
-        ("timeUnit", "0", Cause::Range),
-        ("timeUnit", r#""25h""#, Cause::Range),
-        ("timeUnit", r#""1d1ns""#, Cause::Range),
-        ("timeUnit", "86400001", Cause::Range),
-        ("timeUnit", r#""31d""#, Cause::TooLarge),
-        ("duration", "", Cause::Missing),
-        ("duration", "true", Cause::WrongKind),
-        ("duration", "null", Cause::WrongKind),
-        ("duration", r#""0s""#, Cause::Range),
-        ("duration", "0", Cause::Range),
-        ("duration", r#""31d""#, Cause::TooLarge),
-        ("duration", "18446744073709551615", Cause::TooLarge),
-        ("duration", r#""""#, Cause::Empty),
-        ("duration", r#""1x""#, Cause::BadUnit),
-        ("duration", r#""0.1ns""#, Cause::NotWhole),
-        ("duration", r#""abc""#, Cause::BadDigit),
-        ("preAllocatedVUs", "", Cause::Missing),
-        ("preAllocatedVUs", r#""4""#, Cause::WrongKind),
-        ("preAllocatedVUs", "1001", Cause::Range),
-        ("maxVUs", "null", Cause::WrongKind),
-        ("maxVUs", "0", Cause::MaxBelowPre),
-        ("maxVUs", "3", Cause::MaxBelowPre),
-        ("maxVUs", "1001", Cause::Range),
-    ];
-    for (name, value, cause) in table {
-        let fault = fault_of(rt.alloc(), &changed(rt.alloc(), &[(name, value)])?);
-        assert_eq!(rt; cause_of(&fault), cause, "{name} {value}");
-        assert!(rt; is_at(rt.alloc(), &fault, name)?, "{name} {value}");
+    for row in CHANGES.lines() {
+        let (change, cause) = columns(row, "=>");
+        let change = columns(change, " ");
+        let fault = fault_of(rt.alloc(), &changed(rt.alloc(), &[change])?);
+        assert_eq!(rt; cause_of(&fault), cause, "{row}");
+        assert!(rt; is_at(rt.alloc(), &fault, change.0)?, "{row}");
     }
     Ok(())
 }
@@ -390,44 +293,14 @@ fn members_are_refused(rt: HostRuntime) -> Result<(), Fail> {
 /// at the second of them.
 #[test]
 fn earlier_members_are_refused(rt: HostRuntime) -> Result<(), Fail> {
-    let table = [
-        ("env", "1", "executor", "", Cause::Missing),
-        ("env", "1", "executor", "1", Cause::WrongKind),
-        ("env", "1", "executor", r#""fast""#, Cause::BadExecutor),
-        ("rate", "", "env", "1", Cause::Unknown),
-        ("startTime", "true", "env", "1", Cause::Unknown),
-        (
-            "gracefulStop",
-            "true",
-            "startTime",
-            r#""31d""#,
-            Cause::TooLarge,
-        ),
-        ("exec", "1", "gracefulStop", r#""1x""#, Cause::BadUnit),
-        ("exec", "1", "startTime", r#""""#, Cause::Empty),
-        ("rate", "", "exec", r#""third""#, Cause::ScriptUnknown),
-        ("rate", "true", "exec", "1", Cause::WrongKind),
-        ("timeUnit", "true", "rate", "0", Cause::Range),
-        ("duration", "", "rate", "1000001", Cause::Range),
-        ("duration", "", "timeUnit", r#""25h""#, Cause::Range),
-        ("preAllocatedVUs", "", "duration", "0", Cause::Range),
-        ("preAllocatedVUs", "", "rate", "", Cause::Missing),
-        ("maxVUs", "true", "duration", "", Cause::Missing),
-        ("maxVUs", "true", "preAllocatedVUs", "1001", Cause::Range),
-        ("maxVUs", "1000", "preAllocatedVUs", "1001", Cause::Range),
-        ("maxVUs", "0", "preAllocatedVUs", "", Cause::Missing),
-        ("preAllocatedVUs", "3", "maxVUs", "2", Cause::MaxBelowPre),
-        ("preAllocatedVUs", "0", "maxVUs", "", Cause::Range),
-        ("preAllocatedVUs", "0", "maxVUs", "0", Cause::Range),
-    ];
-    for (later, any, name, value, cause) in table {
-        let text = changed(rt.alloc(), &[(later, any), (name, value)])?;
+    for row in PAIRS_OF_CHANGES.lines() {
+        let (changes, cause) = columns(row, "=>");
+        let (later, earlier) = columns(changes, ",");
+        let earlier = columns(earlier, " ");
+        let text = changed(rt.alloc(), &[columns(later, " "), earlier])?;
         let fault = fault_of(rt.alloc(), &text);
-        assert_eq!(rt; cause_of(&fault), cause, "{later} {any} {name} {value}");
-        assert!(rt;
-            is_at(rt.alloc(), &fault, name)?,
-            "{later} {any} {name} {value}"
-        );
+        assert_eq!(rt; cause_of(&fault), cause, "{row}");
+        assert!(rt; is_at(rt.alloc(), &fault, earlier.0)?, "{row}");
     }
     Ok(())
 }
@@ -439,10 +312,10 @@ fn scripts_are_counted(rt: HostRuntime) -> Result<(), Fail> {
     let good =
         r#"{"main":{"executor":"constant-arrival-rate","rate":1,"duration":"1s","preAllocatedVUs":1,"exec":"s99"}}"#;
     let table = [
-        (100, good, "[]", Cause::None, ""),
-        (101, good, "[]", Cause::Range, "/scripts"),
-        (101, good, "0", Cause::Range, "/scripts"),
-        (101, "{}", "[]", Cause::Range, "/scripts"),
+        (100, good, "[]", "", ""),
+        (101, good, "[]", "Range", "/scripts"),
+        (101, good, "0", "Range", "/scripts"),
+        (101, "{}", "[]", "Range", "/scripts"),
     ];
     for (count, scenarios, script, cause, path) in table {
         let fault = fault_of(alloc, &with_scripts(alloc, scenarios, count, script)?);
@@ -450,6 +323,12 @@ fn scripts_are_counted(rt: HostRuntime) -> Result<(), Fail> {
         assert!(rt; path_of(&fault) == path.as_bytes(), "{count} {script}");
     }
     Ok(())
+}
+
+// The two columns of a row, around the first of this text.
+fn columns<'a>(row: &'a str, between: &str) -> (&'a str, &'a str) {
+    let (left, right) = row.split_once(between).unwrap_or((row, ""));
+    (left.trim(), right.trim())
 }
 
 // The arrivals of these numbers.
@@ -539,33 +418,33 @@ fn fault_of(alloc: Global, text: &[u8]) -> Option<OptionsFault> {
     Options::read(alloc, text).err()
 }
 
-// The cause of a fault.
-fn cause_of(fault: &Option<OptionsFault>) -> Cause {
+// The name of a fault.
+fn cause_of(fault: &Option<OptionsFault>) -> &'static str {
     match fault {
-        None => Cause::None,
-        Some(OptionsFault::NotJson) => Cause::NotJson,
-        Some(OptionsFault::Missing(_)) => Cause::Missing,
-        Some(OptionsFault::WrongKind(_)) => Cause::WrongKind,
-        Some(OptionsFault::Unknown(_)) => Cause::Unknown,
-        Some(OptionsFault::BadName(_)) => Cause::BadName,
-        Some(OptionsFault::BadExecutor(_)) => Cause::BadExecutor,
-        Some(OptionsFault::Range(_)) => Cause::Range,
-        Some(OptionsFault::MaxBelowPre(_)) => Cause::MaxBelowPre,
-        Some(OptionsFault::ScriptUnknown(_)) => Cause::ScriptUnknown,
+        None => "",
+        Some(OptionsFault::NotJson) => "NotJson",
+        Some(OptionsFault::Missing(_)) => "Missing",
+        Some(OptionsFault::WrongKind(_)) => "WrongKind",
+        Some(OptionsFault::Unknown(_)) => "Unknown",
+        Some(OptionsFault::BadName(_)) => "BadName",
+        Some(OptionsFault::BadExecutor(_)) => "BadExecutor",
+        Some(OptionsFault::Range(_)) => "Range",
+        Some(OptionsFault::MaxBelowPre(_)) => "MaxBelowPre",
+        Some(OptionsFault::ScriptUnknown(_)) => "ScriptUnknown",
         Some(OptionsFault::Number { path: _, fault }) => cause_of_number(fault),
-        Some(OptionsFault::Memory) => Cause::Other,
+        Some(OptionsFault::Memory) => "Other",
     }
 }
 
-// The cause of a fault of a number.
-fn cause_of_number(fault: &NumFault) -> Cause {
+// The name of a fault of a number.
+fn cause_of_number(fault: &NumFault) -> &'static str {
     match fault {
-        NumFault::Empty => Cause::Empty,
-        NumFault::BadDigit => Cause::BadDigit,
-        NumFault::TooLarge => Cause::TooLarge,
-        NumFault::BadUnit => Cause::BadUnit,
-        NumFault::NotWhole => Cause::NotWhole,
-        NumFault::ZeroDenominator | NumFault::Memory => Cause::Other,
+        NumFault::Empty => "Empty",
+        NumFault::BadDigit => "BadDigit",
+        NumFault::TooLarge => "TooLarge",
+        NumFault::BadUnit => "BadUnit",
+        NumFault::NotWhole => "NotWhole",
+        NumFault::ZeroDenominator | NumFault::Memory => "Other",
     }
 }
 

@@ -29,34 +29,21 @@ impl Model for Scripts {
 }
 
 impl Scripts {
-    ghost use Rattle.std.specs.Prelude.{◌≡◌, ◌≢◌, ◌<◌, Some, IfErr, IfOk, MatchOption, OnOk, length, slice_get};
+    ghost use Rattle.std.specs.Prelude.{◌≡◌, ◌≢◌, ◌<◌, Some, IfErr, IfOk, MatchOption, length, slice_get};
     ghost use Rattle.ld_json.specs.Rules.{Accepts};
     ghost use Rattle.ld_script.specs.Name.{Lacks};
-    ghost use Rattle.ld_script.specs.Refusal.{RefusesScripts, RefusesTable};
+    ghost use Rattle.ld_script.specs.Refusal.{RefusesScripts};
     ghost use Rattle.ld_script.specs.Scripts.{AreScriptsOf};
     ghost use Rattle.ld_script.specs.ScriptsView.{AreScripts};
     ghost use Rattle.ld_script.specs.declared.fault.ScriptFault.{ScriptFault};
 
-    /// Whether the value at `scripts` may be an object of scripts. What stands in its members isn't
-    /// looked at.
-    ///
-    /// Refused are, in this order, a value that is no object, as `WrongKind`, and an object of more
-    /// than 100 members, as `Range`, each at the value's path. The only other error is want of
-    /// memory.
-    pub fn check(alloc: Global, node: &Node<'_>) -> Result<(), ScriptFault>
-        ensures accepted { OnOk result (Accepts (RefusesTable node.now)) }
-        ensures refused { IfErr result (λ f. f ≢ ScriptFault.Memory → RefusesTable node.now f) }
-    {
-        members_of(alloc, node)?;
-        Ok(())
-    }
-
     /// Reads the scripts that stand in the value at `scripts`: each member is one, under its name.
     ///
-    /// First is refused what `check` refuses. Then the first script is refused, in byte order of
-    /// names, whose name is none, as `BadName`, or else whose value is no list, as `WrongKind`, or
-    /// else has a step, as `Range`, each at the script's path. The only other error is want of
-    /// memory.
+    /// Refused are, in this order, a value that is no object, as `WrongKind`, and an object of more
+    /// than 100 members, as `Range`, each at the value's path. Then the first script is refused, in
+    /// byte order of names, whose name is none, as `BadName`, or else whose value is no list, as
+    /// `WrongKind`, or else has a step, as `Range`, each at the script's path. The only other error
+    /// is want of memory.
     pub fn read(alloc: Global, node: &Node<'_>) -> Result<Scripts, ScriptFault>
         ensures value { IfOk result (AreScriptsOf node.now) }
         ensures scripts { IfOk result (λ s. AreScripts s.names s.scripts) }

@@ -6,6 +6,43 @@ use ld_num::NumFault;
 use std::alloc::Global;
 use std::test::Fail;
 
+// Texts that are no segments, and why.
+const NO_SEGMENTS: &str = "\
+1/2:1/2 => NotLess(1)
+2/3:1/2 => NotLess(1)
+0 => NotLess(1)
+0:101% => AboveOne(1)
+2:1 => AboveOne(0)
+3:2 => AboveOne(0)
+0:1/0 => Number { at: 1, fault: ZeroDenominator }
+-1/4:1/2 => BelowZero(0)
+1/4:-1/2 => BelowZero(1)
+- => BelowZero(1)
+x:-1 => Number { at: 0, fault: BadDigit }
+1/4:1/2:3 => Number { at: 1, fault: BadDigit }
+=> Number { at: 1, fault: Empty }
+:1 => Number { at: 0, fault: Empty }
+1234567890 => Number { at: 1, fault: TooLarge }";
+
+// Texts that are no sequences, and why.
+const NO_SEQUENCES: &str = "\
+1/2 => FewPoints
+2 => FewPoints
+0,1/2,1/2 => NotLess(2)
+1/2,1/3,1/4 => NotLess(1)
+2,1 => AboveOne(0)
+0,1,1,2 => AboveOne(3)
+0,-1,x => BelowZero(1)
+2,1,x => Number { at: 2, fault: BadDigit }
+=> Number { at: 0, fault: Empty }
+0,1, => Number { at: 2, fault: Empty }";
+
+// The two columns of a row, around an arrow.
+fn columns(row: &str) -> (&str, &str) {
+    let (left, right) = row.split_once("=>").unwrap_or((row, ""));
+    (left.trim(), right.trim())
+}
+
 // What is printed of a segment that is read, or why it is refused.
 fn read_back<'a>(text: &[u8], into: &'a mut Vec<u8>) -> Result<&'a [u8], SegmentFault> {
     into.clear();
@@ -33,67 +70,19 @@ fn segments_are_read(rt: HostRuntime) -> Result<(), Fail> {
 
 /// Texts that are no segments, in the order in which they are looked at.
 #[test]
-fn segments_are_refused(rt: HostRuntime) {
-    let table = [
-        ("1/2:1/2", SegmentFault::NotLess(1)),
-        ("2/3:1/2", SegmentFault::NotLess(1)),
-        ("0", SegmentFault::NotLess(1)),
-        ("0:101%", SegmentFault::AboveOne(1)),
-        ("2:1", SegmentFault::AboveOne(0)),
-        ("3:2", SegmentFault::AboveOne(0)),
-        (
-            "0:1/0",
-            SegmentFault::Number {
-                at: 1,
-                fault: NumFault::ZeroDenominator,
-            },
-        ),
-        ("-1/4:1/2", SegmentFault::BelowZero(0)),
-        ("1/4:-1/2", SegmentFault::BelowZero(1)),
-        ("-", SegmentFault::BelowZero(1)),
-        (
-            "x:-1",
-            SegmentFault::Number {
-                at: 0,
-                fault: NumFault::BadDigit,
-            },
-        ),
-        (
-            "1/4:1/2:3",
-            SegmentFault::Number {
-                at: 1,
-                fault: NumFault::BadDigit,
-            },
-        ),
-        (
-            "",
-            SegmentFault::Number {
-                at: 1,
-                fault: NumFault::Empty,
-            },
-        ),
-        (
-            ":1",
-            SegmentFault::Number {
-                at: 0,
-                fault: NumFault::Empty,
-            },
-        ),
-        (
-            "1234567890",
-            SegmentFault::Number {
-                at: 1,
-                fault: NumFault::TooLarge,
-            },
-        ),
-    ];
-    for (text, want) in &table {
-        let found = Segment::read(text.as_bytes());
-        assert!(rt;
-            matches!(&found, Err(fault) if *fault == *want),
-            "of {text}"
+fn segments_are_refused(rt: HostRuntime) -> Result<(), Fail> {
+    for row in NO_SEGMENTS.lines() {
+        let (text, want) = columns(row);
+        let Err(fault) = Segment::read(text.as_bytes()) else {
+            panic!(rt; "{row}");
+        };
+        assert_eq!(rt;
+            format!(in rt.alloc(); "{fault:?}")?.as_str(),
+            want,
+            "{row}"
         );
     }
+    Ok(())
 }
 
 /// Sequences, as they are printed and when they are filled.
@@ -123,44 +112,19 @@ fn sequences_are_read(rt: HostRuntime) -> Result<(), Fail> {
 
 /// Texts that are no sequences.
 #[test]
-fn sequences_are_refused(rt: HostRuntime) {
-    let table = [
-        ("1/2", SegmentFault::FewPoints),
-        ("2", SegmentFault::FewPoints),
-        ("0,1/2,1/2", SegmentFault::NotLess(2)),
-        ("1/2,1/3,1/4", SegmentFault::NotLess(1)),
-        ("2,1", SegmentFault::AboveOne(0)),
-        ("0,1,1,2", SegmentFault::AboveOne(3)),
-        ("0,-1,x", SegmentFault::BelowZero(1)),
-        (
-            "2,1,x",
-            SegmentFault::Number {
-                at: 2,
-                fault: NumFault::BadDigit,
-            },
-        ),
-        (
-            "",
-            SegmentFault::Number {
-                at: 0,
-                fault: NumFault::Empty,
-            },
-        ),
-        (
-            "0,1,",
-            SegmentFault::Number {
-                at: 2,
-                fault: NumFault::Empty,
-            },
-        ),
-    ];
-    for (text, want) in &table {
-        let found = Sequence::read(rt.alloc(), text.as_bytes());
-        assert!(rt;
-            matches!(&found, Err(fault) if *fault == *want),
-            "of {text}"
+fn sequences_are_refused(rt: HostRuntime) -> Result<(), Fail> {
+    for row in NO_SEQUENCES.lines() {
+        let (text, want) = columns(row);
+        let Err(fault) = Sequence::read(rt.alloc(), text.as_bytes()) else {
+            panic!(rt; "{row}");
+        };
+        assert_eq!(rt;
+            format!(in rt.alloc(); "{fault:?}")?.as_str(),
+            want,
+            "{row}"
         );
     }
+    Ok(())
 }
 
 // A text of the thousandths from one on, below another.

@@ -124,6 +124,30 @@ pub fn check<R: AllocGlobal + Abort>(rt: &R, row: &Row<'_>) -> Result<(), Fail> 
     Ok(())
 }
 
+/// The two columns of a row, around an arrow.
+pub fn columns(row: &str) -> (&str, &str) {
+    let (left, right) = row.split_once("=>").unwrap_or((row, ""));
+    (left.trim(), right.trim())
+}
+
+/// Carries out the command of each row, which is to end with this status, to say the line behind the arrow on standard
+/// error, and to do nothing else.
+pub fn check_refused<R: AllocGlobal + Abort>(rt: &R, status: u8, table: &str) -> Result<(), Fail> {
+    for row in table.lines() {
+        let (line, said) = columns(row);
+        let err = format!(in rt.alloc(); "{said}\n")?;
+        let row = Row {
+            line,
+            status,
+            out: "",
+            err: &err,
+            journal: None,
+        };
+        check(rt, &row)?;
+    }
+    Ok(())
+}
+
 /// Whether the shelf has a file of this name with this text.
 pub fn holds(shelf: &MemShelf, name: &str, text: &str) -> bool {
     match shelf.file(name) {
