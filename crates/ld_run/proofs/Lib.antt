@@ -7,11 +7,17 @@ pub mod IndicesLemmas
 pub mod OutcomeLemmas
 pub mod PlanLemmas
 pub mod PrintedLemmas
+pub mod RateData
+pub mod RateOptionLemmas
+pub mod RateRefusalLemmas
+pub mod RateTextLemmas
 pub mod RefusalLemmas
 pub mod RehearsalLemmas
 pub mod RequestLemmas
 pub mod RunLemmas
+pub mod RuleLemmas
 pub mod SayingLemmas
 pub mod ShelfLemmas
+pub mod SpanLemmas
 pub mod StripeLemmas
 pub mod WordsOutcomeLemmas

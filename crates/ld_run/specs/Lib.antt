@@ -8,6 +8,7 @@ pub mod Help
 pub mod Indices
 pub mod Outcome
 pub mod Planned
+pub mod RateOptions
 pub mod Refusal
 pub mod RefusalLine
 pub mod Rehearsal

@@ -16,7 +16,7 @@ mod text;
 
 pub use answer::{Answer, NamedFile};
 pub use desk::{command, desk_command};
-pub use laws::one_answer;
+pub use laws::{one_answer, rate_tests_read_back};
 pub use refusal::Refusal;
 
 #[cfg(test)]

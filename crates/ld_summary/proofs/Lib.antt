@@ -1,4 +1,5 @@
 mod ActLemmas
+mod ListedLemmas
 mod PlanTextLemmas
 mod PlannedLemmas
 mod ScenarioLemmas

@@ -36,7 +36,7 @@ as_many seen made =
     sym (ap (λ (ps : List Part). length ps) is.parts ∙ length-map is.views (λ (v : PartView). v.part) ∙ views)
 
 -- a value that is there
-there : {X : Type 0} (o : Option X) (P : X → Type 0) → IsSomeAnd o P → (x : X) × (o ≡ Some x) × P x
+pub there : {X : Type 0} (o : Option X) (P : X → Type 0) → IsSomeAnd o P → (x : X) × (o ≡ Some x) × P x
 there None P is = absurd is
 there (Some x) P is = (x, refl, is)
 
@@ -54,7 +54,7 @@ one_number_more n =
     ∙ ap (λ ns. ns ++ n ∷ []) (map-id (range_with_len 0 n))
 
 -- the test of an item is the answer of the plan
-owned_is : (part : Part) (item : ℕ) (owned : Bool) → IsTrue owned ↔ Contains (owned_items part.executor) item → owned ≡ is_owned part item
+pub owned_is : (part : Part) (item : ℕ) (owned : Bool) → IsTrue owned ↔ Contains (owned_items part.executor) item → owned ≡ is_owned part item
 owned_is part item owned is =
     both_ways owned (is_owned part item)
     (λ holds. list_any-from_Contains nat_eq_equiv item (owned_items part.executor) (is.0 holds))

@@ -4,7 +4,7 @@ use Rattle.std.specs.List.{concat, flat_map, list_any, range_with_len}
 use Rattle.ld_segment.specs.Printed.{sequence_text}
 use Rattle.ld_arrival.specs.Timetable.{moment_of}
 use Rattle.ld_machine.specs.Moment.{moment_after}
-use Rattle.ld_machine.specs.Plan.{Part, owned_items}
+use Rattle.ld_machine.specs.Plan.{Arrival, Part, due_moment, owned_items}
 use Rattle.ld_options.specs.declared.executor.Executor.{Executor}
 use Rattle.ld_options.specs.declared.executor.Executor.TheVariants.{ConstantArrivals}
 use Rattle.ld_options.specs.declared.scenario.Scenario.{Scenario}
@@ -58,6 +58,10 @@ moment_line item moment = line (codes "moment" ∷ decimal item ∷ decimal mome
 -- the line of an item of a scenario
 abbrev pub item_line : Scenario → ℕ → List ℕ
 item_line scenario item = moment_line item (item_moment scenario item)
+
+-- the line of an arrival that the instance owns
+abbrev pub arrival_line : Part → Arrival → List ℕ
+arrival_line part arrival = moment_line arrival.item (due_moment part arrival)
 
 -- the instance owns an item
 abbrev pub is_owned : Part → ℕ → Bool

@@ -6,11 +6,13 @@
 
 mod counts;
 mod fault;
+mod laws;
 mod plan_lines;
 mod planned;
 mod text;
 
 pub use fault::SummaryFault;
+pub use laws::listed_arrivals;
 pub use plan_lines::plan_text;
 pub use text::summary_text;
 
