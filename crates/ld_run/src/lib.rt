@@ -18,6 +18,3 @@ pub use answer::{Answer, NamedFile};
 pub use desk::{command, desk_command};
 pub use laws::{one_answer, rate_tests_read_back};
 pub use refusal::Refusal;
-
-#[cfg(test)]
-mod tests;

@@ -1,8 +1,8 @@
 // A desk with objects in memory, at which a command line is carried out.
 
 use ld_base::{Bytes, Text};
-use ld_outside::{Files, MemShelf, MemSink, Numbers, ShelfCallKind};
-use ld_run::command;
+use ld_outside::{Files, MemShelf, MemSink, Numbers, ShelfCallKind, SureShelf, SureSink};
+use ld_run::{command, desk_command};
 use std::alloc::{AllocError, Global};
 use std::process::Abort;
 use std::test::Fail;
@@ -52,8 +52,8 @@ pub struct Played {
     pub err: MemSink,
 }
 
-/// The words of a line.
-pub fn split(alloc: Global, line: &str) -> Result<Vec<String>, AllocError> {
+// The words of a line.
+fn split(alloc: Global, line: &str) -> Result<Vec<String>, AllocError> {
     let mut words = Vec::new(alloc);
     for word in line.split_whitespace() {
         words.push(String::from_str(alloc, word)?)?;
@@ -108,6 +108,26 @@ pub fn play_test<R: AllocGlobal>(
         out,
         err,
     })
+}
+
+/// Carries out the command of a line with objects that never fail, on an empty shelf, by the call that may wait or by
+/// the other.
+pub fn play_sure<R: AllocGlobal>(
+    rt: &R,
+    line: &str,
+    waits: bool,
+) -> Result<(u8, SureShelf, SureSink, SureSink), Fail> {
+    let alloc = rt.alloc();
+    let words = split(alloc, line)?;
+    let mut shelf = SureShelf::new(alloc, Files::of(Vec::new(alloc)));
+    let mut out = SureSink::new(alloc);
+    let mut err = SureSink::new(alloc);
+    let status = if waits {
+        command(rt, &words, &mut shelf, &mut out, &mut err)
+    } else {
+        desk_command(rt, &words, &mut shelf, &mut out, &mut err)
+    };
+    Ok((status, shelf, out, err))
 }
 
 /// Carries out the command of a row, at a desk where no call fails, and compares all that it gives.

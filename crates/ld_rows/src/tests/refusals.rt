@@ -1,6 +1,7 @@
 // Rehearsals of tests that have no plan. No file is started.
 
 use crate::tests::desk::check_refused;
+use ld_run::Refusal;
 use std::test::Fail;
 
 // Each number out of its range, the least maximum, too many arrivals, and a journal that is too small for them.
@@ -22,4 +23,14 @@ rehearse --rate 0 --unit 2d --duration 1s --pre 2 --max 1 --iteration 1s --journ
 #[test]
 fn tests_without_a_plan(rt: HostRuntime) -> Result<(), Fail> {
     check_refused(&rt, 5, REFUSED)
+}
+
+/// A refusal tells its status and its line.
+#[test]
+fn a_refusal_by_itself(rt: HostRuntime) -> Result<(), Fail> {
+    let refusal = Refusal::NoSuchPosition(2);
+    assert_eq!(rt; refusal.status(), 5);
+    let line = refusal.line(rt.alloc())?;
+    assert_eq!(rt; line.as_slice(), "error 22 NoSuchPosition 2\n".as_bytes());
+    Ok(())
 }

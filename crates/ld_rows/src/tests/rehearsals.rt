@@ -1,8 +1,6 @@
 // Rehearsals that are played.
 
-use crate::tests::desk::{Row, check, split};
-use ld_outside::{Files, SureShelf, SureSink};
-use ld_run::command;
+use crate::tests::desk::{Row, check, play_sure};
 use std::test::Fail;
 
 /// The journal of two arrivals with one user: the second is dropped, since the first is under way.
@@ -197,17 +195,19 @@ fn durations(rt: HostRuntime) -> Result<(), Fail> {
     Ok(())
 }
 
-/// Objects that never fail give the same.
+/// Objects that never fail give the same, by either call.
 #[test]
 fn at_a_sure_desk(rt: HostRuntime) -> Result<(), Fail> {
-    let alloc = rt.alloc();
-    let words = split(alloc, ONE_USER_LINE)?;
-    let mut shelf = SureShelf::new(alloc, Files::of(Vec::new(alloc)));
-    let mut out = SureSink::new(alloc);
-    let mut err = SureSink::new(alloc);
-    assert_eq!(rt; command(&rt, &words, &mut shelf, &mut out, &mut err), 0);
-    assert!(rt; out.taken() == ONE_USER_SUMMARY.as_bytes());
-    assert!(rt; err.taken().is_empty());
-    assert!(rt; shelf.file("j") == Some(ONE_USER.as_bytes()));
+    for waits in [false, true] {
+        let (status, shelf, out, err) = play_sure(&rt, ONE_USER_LINE, waits)?;
+        assert_eq!(rt; status, 0);
+        assert!(rt; out.taken() == ONE_USER_SUMMARY.as_bytes());
+        assert!(rt; err.taken().is_empty());
+        assert!(rt; shelf.file("j") == Some(ONE_USER.as_bytes()));
+        let (status, _, out, err) = play_sure(&rt, "plan missing", waits)?;
+        assert_eq!(rt; status, 5);
+        assert!(rt; out.taken().is_empty());
+        assert!(rt; err.taken() == "error 40 NotJson\n".as_bytes());
+    }
     Ok(())
 }
