@@ -30,7 +30,7 @@ pub enum Refusal {
     #[error("the segment isn't in the sequence")]
     NotInSequence,
     /// The test's file wasn't read.
-    #[error("the test wasn't read")]
+    #[error("the file wasn't read")]
     Read,
     /// The file that the word at this place names is too long.
     #[error("the file at place {0} is too long")]
