@@ -33,6 +33,36 @@ const MILLION: &[u8] =
 const UNTOLD: &[u8] =
     b"{\"options\":{\"scenarios\":{\"main\":{\"executor\":\"constant-arrival-rate\",\"rate\":1000000,\"timeUnit\":\"1ns\",\"duration\":\"720h\",\"preAllocatedVUs\":1,\"maxVUs\":1}}},\"scripts\":{\"default\":[]}}";
 
+// What plans own: a test, a segment, a sequence and the journal's entries, and what the plan tells.
+const PARTS: &str = "\
+small 0:1 0,1 1000000 => 0: users 1 2, Row { begin: 0, end: 1000000000, hard: 31000000000, users: 1, max: 2, items: 2 }, owns 0 at 0 1 at 500000000
+late 0:1/4 0,1/4,1 1000000 => 0: users 1 1, Row { begin: 5000000000, end: 6000000000, hard: 16000000000, users: 1, max: 1, items: 2 }, owns 1 at 5100000000 6 at 5600000000
+late 1/4:1 0,1/4,1 1000000 => 1: users 1 4, Row { begin: 5000000000, end: 6000000000, hard: 16000000000, users: 1, max: 4, items: 8 }, owns 0 at 5000000000 2 at 5200000000 3 at 5300000000 4 at 5400000000 5 at 5500000000 7 at 5700000000 8 at 5800000000 9 at 5900000000
+lonely 0:1/4 0,1/4,1 10 => 0: users 0 0, Row { begin: 0, end: 1000000000, hard: 31000000000, users: 0, max: 0, items: 0 }, owns
+lonely 1/4:1 0,1/4,1 10 => 1: users 0 1, Row { begin: 0, end: 1000000000, hard: 31000000000, users: 0, max: 1, items: 4 }, owns 0 at 0 1 at 250000000 2 at 500000000 3 at 750000000";
+
+// Segments that are none of the sequence, and periods that are too large; they come before too many arrivals, over the
+// whole test, and before a journal that is too small for the owned ones.
+const REFUSED: &str = "\
+small 0:1/2 0,1/2,1 10 =>
+small 0:1/2 0,1/3,1 10 => NotInSequence
+small 0:1 0,1/2,1 10 => NotInSequence
+million 0:1/2 0,1/100003,1 10 => NotInSequence
+million 0:1/100003 0,1/100003,1 10 => PeriodTooLarge(100003)
+small 0:1/99991 0,1/99991,1/2,1 10 => PeriodTooLarge(199982)
+small 0:1/100000 0,1/100000,1 10 =>
+too_many 0:1 0,1 10 => TooManyArrivals { scenario: 0, count: 400001 }
+million 0:1 0,1 1000000 => TooManyArrivals { scenario: 0, count: 1000000 }
+million 1/4:1 0,1/4,1 10 => TooManyArrivals { scenario: 0, count: 1000000 }
+untold 0:1 0,1 10 => TooManyArrivals { scenario: 0, count: 18446744073709551615 }
+many 0:1 0,1 800000 => JournalTooSmall { needed: 800001, limit: 800000 }
+many 0:1 0,1 800001 =>
+late 0:1 0,1 20 => JournalTooSmall { needed: 21, limit: 20 }
+late 0:1 0,1 21 =>
+late 1/4:1 0,1/4,1 10 => JournalTooSmall { needed: 17, limit: 10 }
+late 1/4:1 0,1/4,1 16 => JournalTooSmall { needed: 17, limit: 16 }
+late 1/4:1 0,1/4,1 17 =>";
+
 /// A value that may go to another thread.
 fn may_cross<T: Send + Sync>(_value: &T) -> bool {
     true
@@ -86,97 +116,84 @@ fn ticks(alloc: Global, plan: &Plan) -> Result<Vec<(u64, u64)>, Fail> {
     Ok(pairs)
 }
 
-/// A test that isn't cut is played whole.
-#[test]
-fn plan_has_the_whole_test(rt: HostRuntime) -> Result<(), Fail> {
-    let plan = plan_of(rt.alloc(), SMALL, b"0:1", b"0,1", 1_000_000)??;
-    assert!(rt; may_cross(&plan));
-    assert_eq!(rt;
-        (plan.position(), plan.entries(), plan.scenarios()),
-        (0, 1_000_000, 1)
-    );
-    assert_eq!(rt; plan.name(0).as_slice(), b"main".as_slice());
-    assert_eq!(rt;
-        plan.users(),
-        Users {
-            planned: 1,
-            limit: 2
+// What a plan tells: its position, its users, the row of its first scenario, and the items among the first ten that it
+// owns, with their moments.
+fn told(alloc: Global, plan: &Plan) -> Result<String, Fail> {
+    let position = plan.position();
+    let users = plan.users();
+    let row = row(plan);
+    let mut text = format!(in alloc;
+        "{position}: users {} {}, {row:?}, owns",
+        users.planned, users.limit
+    )?;
+    for k in 0..10 {
+        if let Some((true, moment)) = item(plan, k) {
+            text.push_str(format!(in alloc; " {k} at {moment}")?.as_str())?;
         }
-    );
-    assert_eq!(rt; (plan.whole_items(0), plan.owned(0)), (2, 2));
-    assert_eq!(rt; (item(&plan, 0), item(&plan, 2)), (Some((true, 0)), None));
-    assert_eq!(rt; item(&plan, 1), Some((true, 500_000_000)));
-    assert_eq!(rt; (plan.grace(0), plan.sample_room(0)), (30 * SECOND, 0));
-    let wanted = Row {
-        begin: 0,
-        end: SECOND,
-        hard: 31 * SECOND,
-        users: 1,
-        max: 2,
-        items: 2,
-    };
-    assert_eq!(rt; plan.row(0), wanted);
+    }
+    Ok(text)
+}
+
+// The two parts of a text, around the first of this one.
+fn columns<'a>(text: &'a str, between: &str) -> (&'a str, &'a str) {
+    let (left, right) = text.split_once(between).unwrap_or((text, ""));
+    (left.trim(), right.trim())
+}
+
+// The test of this name.
+fn test_named(name: &str) -> &'static [u8] {
+    match name {
+        "small" => SMALL,
+        "late" => LATE,
+        "lonely" => LONELY,
+        "many" => MANY,
+        "too_many" => TOO_MANY,
+        "million" => MILLION,
+        _ => UNTOLD,
+    }
+}
+
+// The plan of a row: a test, a segment, a sequence, and how many entries a journal may have.
+fn planned(alloc: Global, given: &str) -> Result<Result<Plan, PlanFault>, Fail> {
+    let (test, rest) = columns(given, " ");
+    let (segment, rest) = columns(rest, " ");
+    let (sequence, entries) = columns(rest, " ");
+    let entries = entries.parse().unwrap_or(0);
+    plan_of(
+        alloc,
+        test_named(test),
+        segment.as_bytes(),
+        sequence.as_bytes(),
+        entries,
+    )
+}
+
+/// The parts that plans have of tests. Of five users a quarter and the rest have one and four, and so every fifth item
+/// goes to the quarter. A position without a share of the users owns no items.
+#[test]
+fn plans_have_their_parts(rt: HostRuntime) -> Result<(), Fail> {
+    for row in PARTS.lines() {
+        let (given, want) = columns(row, "=>");
+        let plan = planned(rt.alloc(), given)??;
+        assert_eq!(rt; told(rt.alloc(), &plan)?.as_str(), want, "{row}");
+    }
     Ok(())
 }
 
-/// The plan keeps what it was made of.
+/// A plan tells the rest, and keeps what it was made of.
 #[test]
 fn plan_keeps_options_and_sequence(rt: HostRuntime) -> Result<(), Fail> {
+    let plan = plan_of(rt.alloc(), SMALL, b"0:1", b"0,1/4,1", 1_000_000)?;
+    assert_eq!(rt; plan.err(), Some(PlanFault::NotInSequence));
     let plan = plan_of(rt.alloc(), LATE, b"1/4:1", b"0,1/4,1", 1_000_000)??;
+    assert!(rt; may_cross(&plan));
+    assert_eq!(rt; (plan.entries(), plan.scenarios()), (1_000_000, 1));
+    assert_eq!(rt; plan.name(0).as_slice(), b"late".as_slice());
+    assert_eq!(rt; (plan.whole_items(0), plan.owned(0)), (10, 8));
+    assert_eq!(rt; (plan.grace(0), plan.sample_room(0)), (10 * SECOND, 0));
     assert_eq!(rt; plan.options().scripts.count(), 1);
     assert_eq!(rt; plan.options().scenarios.as_slice().len(), 1);
     assert_eq!(rt; plan.sequence().len(), 2);
-    assert_eq!(rt; plan.position(), 1);
-    Ok(())
-}
-
-/// The parts of a quarter and of the rest: of five users they have one and four, and so every fifth
-/// item goes to the quarter.
-#[test]
-fn parts_have_their_shares(rt: HostRuntime) -> Result<(), Fail> {
-    let alloc = rt.alloc();
-    let table: [(&[u8], usize, u32, u64, [bool; 10]); 2] = [
-        (
-            b"0:1/4",
-            0,
-            1,
-            2,
-            [
-                false, true, false, false, false, false, true, false, false, false,
-            ],
-        ),
-        (
-            b"1/4:1",
-            1,
-            4,
-            8,
-            [true, false, true, true, true, true, false, true, true, true],
-        ),
-    ];
-    for (segment, position, max, items, owned) in table {
-        let plan = plan_of(alloc, LATE, segment, b"0,1/4,1", 1_000_000)??;
-        assert_eq!(rt; plan.position(), position);
-        assert_eq!(rt;
-            plan.users(),
-            Users {
-                planned: 1,
-                limit: max
-            }
-        );
-        let wanted = Row {
-            begin: 5 * SECOND,
-            end: 6 * SECOND,
-            hard: 16 * SECOND,
-            users: 1,
-            max,
-            items,
-        };
-        assert_eq!(rt; row(&plan), wanted);
-        for (k, owns) in owned.iter().enumerate() {
-            let moment = 5 * SECOND + k as u64 * 100_000_000;
-            assert_eq!(rt; item(&plan, k as u64), Some((*owns, moment)));
-        }
-    }
     Ok(())
 }
 
@@ -191,93 +208,16 @@ fn ticker_has_the_owned_arrivals(rt: HostRuntime) -> Result<(), Fail> {
     Ok(())
 }
 
-/// A position without a share of the users owns no items.
+/// Why tests have no plan.
 #[test]
-fn no_users_no_items(rt: HostRuntime) -> Result<(), Fail> {
-    let table: [(&[u8], u32, u64); 2] = [(b"0:1/4", 0, 0), (b"1/4:1", 1, 4)];
-    for (segment, max, items) in table {
-        let plan = plan_of(rt.alloc(), LONELY, segment, b"0,1/4,1", 10)??;
-        assert_eq!(rt;
-            plan.users(),
-            Users {
-                planned: 0,
-                limit: max
-            }
-        );
-        assert_eq!(rt; (row(&plan).users, row(&plan).items), (0, items));
-    }
-    Ok(())
-}
-
-/// Why a segment is refused, or None where it has a plan.
-fn fault(
-    alloc: Global,
-    test: &[u8],
-    cut: (&[u8], &[u8]),
-    entries: u32,
-) -> Result<Option<PlanFault>, Fail> {
-    Ok(plan_of(alloc, test, cut.0, cut.1, entries)?.err())
-}
-
-/// Segments that are none of the sequence, and periods that are too large; they come before too many
-/// arrivals.
-#[test]
-fn cuts_are_refused(rt: HostRuntime) -> Result<(), Fail> {
-    let alloc = rt.alloc();
-    let table: [(&[u8], (&[u8], &[u8]), Option<PlanFault>); 7] = [
-        (SMALL, (b"0:1/2", b"0,1/2,1"), None),
-        (
-            SMALL,
-            (b"0:1/2", b"0,1/3,1"),
-            Some(PlanFault::NotInSequence),
-        ),
-        (SMALL, (b"0:1", b"0,1/2,1"), Some(PlanFault::NotInSequence)),
-        (
-            MILLION,
-            (b"0:1/2", b"0,1/100003,1"),
-            Some(PlanFault::NotInSequence),
-        ),
-        (
-            MILLION,
-            (b"0:1/100003", b"0,1/100003,1"),
-            Some(PlanFault::PeriodTooLarge(100_003)),
-        ),
-        (
-            SMALL,
-            (b"0:1/99991", b"0,1/99991,1/2,1"),
-            Some(PlanFault::PeriodTooLarge(199_982)),
-        ),
-        (SMALL, (b"0:1/100000", b"0,1/100000,1"), None),
-    ];
-    for (test, cut, want) in table {
-        assert_eq!(rt; fault(alloc, test, cut, 10)?, want);
-    }
-    Ok(())
-}
-
-/// Too many arrivals, over the whole test, and a journal that is too small for the owned ones.
-#[test]
-fn arrivals_are_refused(rt: HostRuntime) -> Result<(), Fail> {
-    let alloc = rt.alloc();
-    let many = |count| { Some(PlanFault::TooManyArrivals { scenario: 0, count }) };
-    let small = |needed, limit| Some(PlanFault::JournalTooSmall { needed, limit });
-    let whole: (&[u8], &[u8]) = (b"0:1", b"0,1");
-    let rest: (&[u8], &[u8]) = (b"1/4:1", b"0,1/4,1");
-    let table = [
-        (TOO_MANY, whole, 10, many(400_001)),
-        (MILLION, whole, 1_000_000, many(1_000_000)),
-        (MILLION, rest, 10, many(1_000_000)),
-        (UNTOLD, whole, 10, many(18_446_744_073_709_551_615)),
-        (MANY, whole, 800_000, small(800_001, 800_000)),
-        (MANY, whole, 800_001, None),
-        (LATE, whole, 20, small(21, 20)),
-        (LATE, whole, 21, None),
-        (LATE, rest, 10, small(17, 10)),
-        (LATE, rest, 16, small(17, 16)),
-        (LATE, rest, 17, None),
-    ];
-    for (test, cut, entries, want) in table {
-        assert_eq!(rt; fault(alloc, test, cut, entries)?, want);
+fn tests_are_refused(rt: HostRuntime) -> Result<(), Fail> {
+    for row in REFUSED.lines() {
+        let (given, want) = columns(row, "=>");
+        let said = match planned(rt.alloc(), given)? {
+            Ok(_) => String::new(rt.alloc()),
+            Err(fault) => format!(in rt.alloc(); "{fault:?}")?,
+        };
+        assert_eq!(rt; said.as_str(), want, "{row}");
     }
     Ok(())
 }
