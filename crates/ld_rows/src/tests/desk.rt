@@ -150,20 +150,31 @@ pub fn columns(row: &str) -> (&str, &str) {
     (left.trim(), right.trim())
 }
 
+/// Carries out the command of a line, which writes no file, and compares what it gives.
+pub fn check_line<'a, R: AllocGlobal + Abort>(
+    rt: &R,
+    line: &'a str,
+    status: u8,
+    out: &'a str,
+    err: &'a str,
+) -> Result<(), Fail> {
+    let row = Row {
+        line,
+        status,
+        out,
+        err,
+        journal: None,
+    };
+    check(rt, &row)
+}
+
 /// Carries out the command of each row, which is to end with this status, to say the line behind the arrow on standard
 /// error, and to do nothing else.
 pub fn check_refused<R: AllocGlobal + Abort>(rt: &R, status: u8, table: &str) -> Result<(), Fail> {
     for row in table.lines() {
         let (line, said) = columns(row);
         let err = format!(in rt.alloc(); "{said}\n")?;
-        let row = Row {
-            line,
-            status,
-            out: "",
-            err: &err,
-            journal: None,
-        };
-        check(rt, &row)?;
+        check_line(rt, line, status, "", &err)?;
     }
     Ok(())
 }

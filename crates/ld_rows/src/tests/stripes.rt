@@ -1,27 +1,8 @@
 // Striping.
 
-use crate::tests::desk::{Row, check, check_refused, columns};
+use crate::tests::desk::{check_line, check_refused, columns};
 use std::alloc::{AllocError, Global};
-use std::process::Abort;
 use std::test::Fail;
-
-// Carries out the command of a line, which writes no file, and compares what it gives.
-fn check_line<'a, R: AllocGlobal + Abort>(
-    rt: &R,
-    line: &'a str,
-    status: u8,
-    out: &'a str,
-    err: &'a str,
-) -> Result<(), Fail> {
-    let row = Row {
-        line,
-        status,
-        out,
-        err,
-        journal: None,
-    };
-    check(rt, &row)
-}
 
 // Lines of `stripe` over weights, and what is printed.
 const PRINTED: &str = "\
