@@ -8,12 +8,12 @@ use Rattle.ld_outside.specs.declared.shelf.ShelfFault.{ShelfFault}
 use Rattle.ld_outside.specs.declared.shelf.ShelfFault.TheVariants as shelves
 use Rattle.ld_outside.specs.declared.sink.SinkFault.TheVariants as sinks
 use Rattle.ld_rehearsal.specs.declared.full.FullJournal.{FullJournal}
-use Rattle.ld_run.specs.Answer.{full_line}
+use Rattle.ld_answer.specs.Answer.{full_line}
 use Rattle.ld_run.specs.Delivery.{FrontFiled, IsDelivered, IsEndSaid, IsFiled, WholeFiled}
-use Rattle.ld_run.specs.RefusalLine.{memory_line}
+use Rattle.ld_answer.specs.RefusalLine.{memory_line}
 use Rattle.ld_run.specs.Saying.{IsSaid, write_line}
-use Rattle.ld_run.specs.declared.answer.Answer.{Answer}
-use Rattle.ld_run.specs.declared.answer.NamedFile.{NamedFile}
+use Rattle.ld_answer.specs.declared.answer.Answer.{Answer}
+use Rattle.ld_answer.specs.declared.answer.NamedFile.{NamedFile}
 use Rattle.ld_run.proofs.SayingLemmas.{said_memory, untouched, whole_front}
 
 -- ---- the file

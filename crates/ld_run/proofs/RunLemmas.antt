@@ -4,21 +4,22 @@ use Rattle.std.specs.Prelude.{Option, Some, None}
 use Rattle.ld_outside.specs.SinkView.{SinkView, TookFront, Rose}
 use Rattle.ld_outside.specs.ShelfView.{Became, Kept, ShelfView}
 use Rattle.ld_rehearsal.specs.declared.full.FullJournal.{FullJournal}
-use Rattle.ld_run.specs.Answer.{full_line}
-use Rattle.ld_run.specs.Answered.{HasAnswer, HasGot}
+use Rattle.ld_answer.specs.Answer.{full_line}
+use Rattle.ld_answer.specs.Answered.{HasAnswer, HasGot}
 use Rattle.ld_run.specs.Delivery.{AllWritten, FileBroken, FrontFiled, IsDelivered, IsEndLine, TextBroken, WholeFiled}
-use Rattle.ld_run.specs.DeskRun.{IsDeskRun, IsLine, IsRefusalStatus, IsUnwritten, IsWordsBroken}
-use Rattle.ld_run.specs.Refusal.{IsRefused, IsRefusedAmong, IsRefusedUnread}
-use Rattle.ld_run.specs.RefusalLine.{line_of, memory_line, status_of}
+use Rattle.ld_run.specs.DeskRun.{IsDeskRun, IsLine}
+use Rattle.ld_answer.specs.Refusal.{IsRefused, IsRefusedAmong, IsRefusedUnread}
+use Rattle.ld_answer.specs.RefusalLine.{IsRefusalStatus, line_of, memory_line, status_of}
 use Rattle.ld_run.specs.Saying.{IsRefusalSaid, Says, Untouched, write_line}
-use Rattle.ld_run.specs.TestFile.{file_of, TestFile}
-use Rattle.ld_run.specs.declared.answer.Answer.{Answer}
-use Rattle.ld_run.specs.declared.answer.NamedFile.{NamedFile}
-use Rattle.ld_run.specs.declared.refusal.Refusal.{Refusal}
-use Rattle.ld_run.specs.declared.refusal.Refusal.TheVariants.{Words, Stripe, NoSuchPosition, Segment, NotInSequence, Read, TooLong, Test, Plan, Memory}
-use Rattle.ld_run.proofs.DeskLemmas.{answered_not_among, answered_not_unread, refused_among, refused_how, read_rose, refused_status, refused_unread, IsRefusedHow}
+use Rattle.ld_answer.specs.TestFile.{file_of, TestFile}
+use Rattle.ld_answer.specs.WordsOutcome.{IsUnwritten, IsWordsBroken}
+use Rattle.ld_answer.specs.declared.answer.Answer.{Answer}
+use Rattle.ld_answer.specs.declared.answer.NamedFile.{NamedFile}
+use Rattle.ld_answer.specs.declared.refusal.Refusal.{Refusal}
+use Rattle.ld_answer.specs.declared.refusal.Refusal.TheVariants.{Words, Stripe, NoSuchPosition, Segment, NotInSequence, Read, TooLong, Test, Plan, Memory}
+use Rattle.ld_answer.proofs.WordsLemmas.{answered_not_among, answered_not_unread, refused_among, refused_how, read_rose, refused_status, refused_unread, IsRefusedHow}
 use Rattle.ld_run.proofs.SayingLemmas.{said_front, untouched}
-use Rattle.ld_run.proofs.ShelfLemmas.{became_nothing, became_so, became_through}
+use Rattle.ld_answer.proofs.ShelfLemmas.{became_nothing, became_so, became_through}
 
 -- ---- an answer that was written
 

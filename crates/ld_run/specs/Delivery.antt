@@ -5,11 +5,11 @@ use Rattle.ld_outside.specs.ShelfView.{Became, ShelfView}
 use Rattle.ld_outside.specs.SinkView.{SinkView, Took, TookFront, Rose}
 use Rattle.ld_outside.specs.declared.shelf.ShelfFault.{ShelfFault}
 use Rattle.ld_rehearsal.specs.declared.full.FullJournal.{FullJournal}
-use Rattle.ld_run.specs.Answer.{full_line}
-use Rattle.ld_run.specs.RefusalLine.{memory_line}
+use Rattle.ld_answer.specs.Answer.{full_line}
+use Rattle.ld_answer.specs.RefusalLine.{memory_line}
 use Rattle.ld_run.specs.Saying.{Says, Untouched, write_line}
-use Rattle.ld_run.specs.declared.answer.Answer.{Answer}
-use Rattle.ld_run.specs.declared.answer.NamedFile.{NamedFile}
+use Rattle.ld_answer.specs.declared.answer.Answer.{Answer}
+use Rattle.ld_answer.specs.declared.answer.NamedFile.{NamedFile}
 
 -- ---- the file
 

@@ -1,48 +1,23 @@
 -- A run of the desk: words in, a status out, and what was done to the shelf and to the two sinks.
-use Rattle.std.specs.Prelude.{◌≡◌, ◌≢◌, ◌≤◌, ◌⊎◌, ℕ, List, None, Some, Result, Ok, Err}
+use Rattle.std.specs.Prelude.{◌≡◌, ◌≢◌, ◌≤◌, ◌⊎◌, ℕ, List, None, Some}
+use Rattle.ld_answer.specs.Answer.{full_line}
+use Rattle.ld_answer.specs.Answered.{HasAnswer}
+use Rattle.ld_answer.specs.Refusal.{IsRefused, IsRefusedAmong, IsRefusedUnread}
+use Rattle.ld_answer.specs.RefusalLine.{IsRefusalStatus, line_of, memory_line, status_of}
+use Rattle.ld_answer.specs.WordsOutcome.{IsUnwritten}
+use Rattle.ld_answer.specs.declared.answer.Answer.{Answer}
+use Rattle.ld_answer.specs.declared.refusal.Refusal.{Refusal}
 use Rattle.ld_outside.specs.ShelfView.{Became, ShelfView}
 use Rattle.ld_outside.specs.SinkView.{SinkView, TookFront, Rose}
 use Rattle.ld_rehearsal.specs.declared.full.FullJournal.{FullJournal}
-use Rattle.ld_words.specs.Words as words
-use Rattle.ld_words.specs.declared.words.Words as requests
-use Rattle.ld_run.specs.Answer.{full_line, HasUtf8Name}
-use Rattle.ld_run.specs.Answered.{HasAnswer}
 use Rattle.ld_run.specs.Delivery.{AllWritten, FileBroken, IsEndLine, TextBroken}
-use Rattle.ld_run.specs.Refusal.{IsRefused, IsRefusedAmong, IsRefusedUnread}
-use Rattle.ld_run.specs.RefusalLine.{line_of, memory_line, status_of}
 use Rattle.ld_run.specs.Saying.{Says, Untouched, write_line}
-use Rattle.ld_run.specs.TestFile.{file_of, OnlyReads, TestFile}
-use Rattle.ld_run.specs.declared.answer.Answer.{Answer}
-use Rattle.ld_run.specs.declared.refusal.Refusal.{Refusal}
-use Rattle.ld_run.specs.declared.refusal.Refusal.TheVariants.{Read, Memory}
-
--- nothing was written: the shelf is as it was, or the file that the words name was read once at most
-abbrev pub IsUnwritten : List (List ℕ) → ShelfView → ShelfView → Type 0
-IsUnwritten ws shelf shelf' =
-    (shelf' ≡ shelf)
-    ⊎ ((request : requests.Words) × (file : TestFile) × words.Asks ws request × (file_of request ≡ Some file)
-    × OnlyReads file.name shelf shelf')
-
--- the words are refused so, but for want of memory; nothing was written
-pub record IsWordsBroken (ws : List (List ℕ)) (old : ShelfView) (r : Refusal) (new : ShelfView) : Type 0 where
-  pub refused : r ≢ Memory → IsRefused ws old r new
-  pub kept : IsUnwritten ws old new
-  pub reads : r ≢ Read → new.read_faults ≡ old.read_faults
-
--- the words are answered so, or broken so
-abbrev pub IsWordsOutcome : List (List ℕ) → Result Answer Refusal → ShelfView → ShelfView → Type 0
-IsWordsOutcome ws (Ok answer) old new = HasAnswer ws old answer new × HasUtf8Name answer
-IsWordsOutcome ws (Err r) old new = IsWordsBroken ws old r new
 
 -- a line that these words may lead to
 pub record IsLine (ws : List (List ℕ)) (shelf shelf' : ShelfView) (line : List ℕ) : Type 0 where
   pub cause : (line ≡ memory_line)
       ⊎ (((answer : Answer) × (read : ShelfView) × HasAnswer ws shelf answer read × IsEndLine answer line)
       ⊎ ((r : Refusal) × IsRefused ws shelf r shelf' × (line ≡ line_of r)))
-
--- words are refused with one of these
-abbrev pub IsRefusalStatus : ℕ → Type 0
-IsRefusalStatus status = (status ≡ 2) ⊎ ((status ≡ 3) ⊎ ((status ≡ 5) ⊎ (status ≡ 11)))
 
 -- the statuses that there are
 abbrev pub IsStatus : ℕ → Type 0

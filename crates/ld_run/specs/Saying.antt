@@ -1,8 +1,8 @@
 -- What the desk puts on its two sinks.
 use Rattle.std.specs.Prelude.{◌≡◌, ◌≤◌, ◌⊎◌, [], ℕ, List, codes}
 use Rattle.ld_outside.specs.SinkView.{SinkView, Took, TookFront, Rose}
-use Rattle.ld_run.specs.RefusalLine.{line_of, memory_line, status_of}
-use Rattle.ld_run.specs.declared.refusal.Refusal.{Refusal}
+use Rattle.ld_answer.specs.RefusalLine.{line_of, memory_line, status_of}
+use Rattle.ld_answer.specs.declared.refusal.Refusal.{Refusal}
 
 -- nothing was put on the sink, and no fault of it was counted
 abbrev pub Untouched : SinkView → SinkView → Type 0

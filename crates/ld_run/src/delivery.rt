@@ -1,19 +1,15 @@
 // How an answer is written, and a refusal said.
-ghost use Rattle.std.specs.Prelude.{◌≡◌, IfSome};
+ghost use Rattle.std.specs.Prelude.{IfSome};
 ghost use Rattle.std.specs.Str.{IsUtf8};
-ghost use Rattle.ld_run.specs.Answer.{HasUtf8Name};
+ghost use Rattle.ld_answer.specs.Answer.{HasUtf8Name};
 ghost use Rattle.ld_run.specs.Delivery.{IsDelivered, IsEndSaid, IsFiled};
 ghost use Rattle.ld_run.specs.Saying.{IsRefusalSaid, IsSaid};
-ghost use Rattle.ld_run.specs.declared.answer.NamedFile.{NamedFile};
+ghost use Rattle.ld_answer.specs.declared.answer.NamedFile.{NamedFile};
 
-use crate::answer::{Answer, NamedFile};
-use crate::refusal::Refusal;
-use crate::text::full_line;
-use ld_base::Text;
+use ld_answer::{Answer, NamedFile, Refusal, full_line, name_of};
 use ld_outside::{Shelf, ShelfFault, Sink, SinkFault, put_all, put_file};
 use ld_rehearsal::FullJournal;
 use std::alloc::Global;
-use std::str;
 
 /// The status of a run that ended well.
 const WELL: u8 = 0;
@@ -61,17 +57,6 @@ fn put_named<S: Shelf>(file: &Option<NamedFile>, shelf: &mut S) -> Result<(), Sh
     match file {
         Some(file) => put_file(shelf, name_of(&file.name), file.bytes.as_slice()),
         None => Ok(()),
-    }
-}
-
-// A name as a text.
-pub fn name_of(name: &Text) -> &str
-    requires { IsUtf8 name.now }
-    ensures { result.now ≡ name.now }
-{
-    match str::from_utf8(name.as_slice()) {
-        Ok(name) => name,
-        Err(_) => unreachable!(),
     }
 }
 

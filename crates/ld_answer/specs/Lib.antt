@@ -1,0 +1,16 @@
+pub mod Answer
+pub mod Answered
+pub mod Cut
+pub mod Faults
+pub mod Help
+pub mod Indices
+pub mod Outcome
+pub mod Planned
+pub mod RateOptions
+pub mod Refusal
+pub mod RefusalLine
+pub mod Rehearsal
+pub mod Request
+pub mod Stripe
+pub mod TestFile
+pub mod WordsOutcome

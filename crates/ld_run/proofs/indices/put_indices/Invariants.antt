@@ -1,6 +1,0 @@
-use Rattle.ld_run.specs.Indices.{owned_below}
-use Rattle.ld_run.proofs.IndicesLemmas.{IsLineSoFar}
-use Rattle.ld_run.proofs.indices.put_indices.Given as goal
-
-abbrev pub invariant-loop-index : goal.invariant-loop-index
-invariant-loop-index l = IsLineSoFar l.fn.text.items (owned_below l.stripe.owners l.position l.index) l.text.items l.follows

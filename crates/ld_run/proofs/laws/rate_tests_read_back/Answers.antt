@@ -1,9 +1,0 @@
-use Rattle.ld_run.proofs.RateRefusalLemmas.{refused}
-use Rattle.ld_run.proofs.RateTextLemmas.{read_back}
-use Rattle.ld_run.proofs.laws.rate_tests_read_back.Goals as goal
-
-pub returns-clause-options : goal.returns-clause-options
-returns-clause-options c = read_back
-
-pub returns-clause-refused : goal.returns-clause-refused
-returns-clause-refused c = refused
