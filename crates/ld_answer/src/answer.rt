@@ -2,7 +2,7 @@ use ld_base::{Bytes, Text};
 use ld_rehearsal::FullJournal;
 
 /// A file that a command writes.
-#[derive(Debug, Drop)]
+#[derive(Drop)]
 pub struct NamedFile {
     /// Its name, in UTF-8.
     pub name: Text,
@@ -11,7 +11,7 @@ pub struct NamedFile {
 }
 
 /// What the words of a command line ask for, before any of it is written.
-#[derive(Debug, Drop)]
+#[derive(Drop)]
 pub struct Answer {
     /// The file that the command writes, if it writes one.
     pub file: Option<NamedFile>,

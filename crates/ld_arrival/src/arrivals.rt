@@ -10,7 +10,7 @@ const MOST_ARRIVALS: u128 = 400_000;
 
 /// The arrivals of a test: how many are planned, at most 400,000, and when each is due. They are seen
 /// as their timetable.
-#[derive(Debug, Drop)]
+#[derive(Drop)]
 pub struct Arrivals {
     rate: ConstantRate,
     count: u64,

@@ -11,7 +11,7 @@ const GREATEST_UNIT: u64 = 86_400_000_000_000;
 const GREATEST_DURATION: u64 = 2_592_000_000_000_000;
 
 // So many arrivals in each unit of time, for a duration. Unit and duration are in nanoseconds.
-#[derive(Debug, Clone, Copy)]
+#[derive(Clone, Copy)]
 pub struct ConstantRate {
     pub rate: u64,
     pub unit: u64,

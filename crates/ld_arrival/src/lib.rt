@@ -13,6 +13,3 @@ pub use laws::{
     ends_within, in_owned, in_schedule, moments_rise, owned_count, owned_once, planned_first,
 };
 pub use ticker::Ticker;
-
-#[cfg(test)]
-mod tests;

@@ -11,7 +11,7 @@ use std::marker::Model;
 /// The arrivals that a position owns, given one by one. It is seen as the pairs that are left: each
 /// arrival, counted from 0 over the whole test, with its moment in nanoseconds from the scenario's
 /// begin.
-#[derive(Debug, Drop)]
+#[derive(Drop)]
 pub struct Ticker {
     pairs: Vec<(u64, u64)>,
     given: usize,

@@ -2,7 +2,7 @@ use crate::command::Command;
 use crate::tally::Tally;
 
 /// How an iteration ended.
-#[derive(Clone, Copy, Debug, PartialEq, Eq)]
+#[derive(Clone, Copy, PartialEq, Eq)]
 pub enum Outcome {
     /// Its script finished, and no later than the iteration's `until`.
     Done,
@@ -16,7 +16,7 @@ pub enum Outcome {
 /// names. `user` is a user's number, from 1. `slot` is the place, from 0, that the user takes among
 /// its scenario's users. `item` is the index, from 0, of an iteration or an arrival; it is the slot
 /// where the executor has no items and loops.
-#[derive(Debug, Drop)]
+#[derive(Drop)]
 pub enum Act {
     /// A scenario took a free user.
     Take {

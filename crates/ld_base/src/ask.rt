@@ -5,7 +5,6 @@ use crate::tally::Tally;
 /// What a thread asks of the pool in one turn.
 ///
 /// An ask can hold a stint, so it can't be dropped.
-#[derive(Debug)]
 pub enum Ask {
     /// Performs the first act that is enabled.
     Act,

@@ -1,6 +1,6 @@
 /// What a person asks of a running test, as by k6's REST API
 /// (<https://grafana.com/docs/k6/latest/reference/k6-rest-api/>).
-#[derive(Clone, Copy, Debug, PartialEq, Eq)]
+#[derive(Clone, Copy, PartialEq, Eq)]
 pub enum Command {
     /// Pauses the externally controlled scenario, or lets it go on.
     Pause(bool),

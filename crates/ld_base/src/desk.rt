@@ -40,6 +40,3 @@ pub trait Desk {
         ensures told { TellsUse (seen self.old).told (seen self.new).told (Raised word level) }
         ensures test { KeepsTest (seen self.old) (seen self.new) };
 }
-
-#[cfg(test)]
-mod tests;

@@ -1,7 +1,7 @@
 use crate::act::Act;
 
 /// One line of a pool's history.
-#[derive(Debug, Drop)]
+#[derive(Drop)]
 pub struct Entry {
     /// The entry's place in the history, from 1.
     pub turn: u64,

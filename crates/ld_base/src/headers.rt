@@ -4,7 +4,7 @@ use crate::text::Text;
 use std::marker::Model;
 
 /// The headers of a request, in order, each as its name and its value (RFC 9110, section 5).
-#[derive(Debug, Drop)]
+#[derive(Drop)]
 pub struct Headers {
     pairs: Vec<(Text, Text)>,
 }

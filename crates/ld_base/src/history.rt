@@ -7,7 +7,7 @@ use std::alloc::Global;
 use std::marker::Model;
 
 /// What a pool recorded, in order, with the room that was reserved for it.
-#[derive(Debug, Drop)]
+#[derive(Drop)]
 pub struct History {
     entries: Vec<Entry>,
     room: u32,
@@ -66,36 +66,5 @@ impl History {
     {
         let History { entries, room: _ } = self;
         entries
-    }
-}
-
-#[cfg(test)]
-mod tests {
-    use super::*;
-    use crate::act::Act;
-
-    fn close(turn: u64, reading: u64) -> Entry {
-        Entry {
-            turn,
-            thread: 3,
-            act: Act::Close { scenario: 1 },
-            reading,
-        }
-    }
-
-    #[test]
-    fn keeps_entries_in_order(rt: HostRuntime) -> Result<(), BaseFault> {
-        let mut history = History::new(rt.alloc(), 2)?;
-        assert_eq!(rt; history.len(), 0);
-        history.push(close(0, 0));
-        history.push(close(1, 10));
-        assert_eq!(rt; history.len(), 2);
-        for (at, want) in [(0, Some(0)), (1, Some(10)), (2, None)] {
-            assert_eq!(rt; history.get(at).map(|entry| entry.reading), want, "at {at}");
-        }
-        let entries = history.into_entries();
-        assert_eq!(rt; entries.len(), 2);
-        assert_eq!(rt; entries[1].turn, 1);
-        Ok(())
     }
 }

@@ -46,6 +46,3 @@ pub use stint::Stint;
 pub use tally::Tally;
 pub use text::Text;
 pub use wish::Wish;
-
-#[cfg(test)]
-mod tests;

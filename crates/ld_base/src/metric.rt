@@ -1,6 +1,6 @@
 /// The kind of a metric, as k6 has them
 /// (<https://grafana.com/docs/k6/latest/using-k6/metrics/>).
-#[derive(Clone, Copy, Debug, PartialEq, Eq)]
+#[derive(Clone, Copy, PartialEq, Eq)]
 pub enum MetricKind {
     /// A sum.
     Counter,
@@ -13,7 +13,7 @@ pub enum MetricKind {
 }
 
 /// What the samples of one name are: additions to a counter, or requests.
-#[derive(Clone, Copy, Debug, PartialEq, Eq)]
+#[derive(Clone, Copy, PartialEq, Eq)]
 pub struct NameSpec {
     /// Whether the name is a counter's.
     pub counter: bool,

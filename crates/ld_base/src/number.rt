@@ -14,18 +14,3 @@ pub fn put_number(into: &mut Vec<u8>, number: u64) -> Result<(), BaseFault>
     into.extend_from_slice(buffer.format(number).as_bytes())?;
     Ok(())
 }
-
-#[cfg(test)]
-mod tests {
-    use super::*;
-
-    #[test]
-    fn prints_decimals(rt: HostRuntime) -> Result<(), BaseFault> {
-        for (number, want) in [(0, "x0"), (10, "x10"), (u64::MAX, "x18446744073709551615")] {
-            let mut text = Vec::from_slice(rt.alloc(), b"x")?;
-            put_number(&mut text, number)?;
-            assert_eq!(rt; text.as_slice(), want.as_bytes());
-        }
-        Ok(())
-    }
-}

@@ -14,7 +14,6 @@ pub enum Room {
 /// In each variant `scenario` is the scenario's number, from 0 in byte order of the scenarios'
 /// names, `user` is a user's number, from 1, and `item` is an item's index, from 0. A reply can
 /// hold a stint, so it can't be dropped.
-#[derive(Debug)]
 pub enum Reply {
     /// An iteration began, and the thread is to play it.
     Run(Stint),

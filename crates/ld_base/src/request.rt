@@ -3,7 +3,7 @@ use crate::headers::Headers;
 use crate::text::Text;
 
 /// A loopback address.
-#[derive(Clone, Copy, Debug, PartialEq, Eq)]
+#[derive(Clone, Copy, PartialEq, Eq)]
 pub enum Loop {
     /// `127.0.0.1` (RFC 1122, section 3.2.1.3).
     V4,
@@ -12,7 +12,7 @@ pub enum Loop {
 }
 
 /// A request of a script, as it is sent (RFC 9112, section 3).
-#[derive(Debug, Drop)]
+#[derive(Drop)]
 pub struct RequestSpec {
     /// The method.
     pub method: Text,

@@ -1,7 +1,7 @@
 /// What one request, or one addition to a counter, measured.
 ///
 /// A sample of a counter's name has the added amount in `sent` and zeros elsewhere.
-#[derive(Clone, Copy, Debug, PartialEq, Eq)]
+#[derive(Clone, Copy, PartialEq, Eq)]
 pub struct Sample {
     /// The position of the sample's name in the test's list of names, from 0.
     pub name: u16,

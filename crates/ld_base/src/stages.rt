@@ -4,7 +4,7 @@ use crate::stage::Stage;
 use std::marker::Model;
 
 /// The stages of a ramp, in order.
-#[derive(Debug, Drop)]
+#[derive(Drop)]
 pub struct Stages {
     stages: Vec<Stage>,
 }

@@ -5,7 +5,6 @@ use std::marker::Model;
 /// One user's leave to play one iteration, known by its four numbers alone.
 ///
 /// A stint can't be dropped, so whoever is given one hands it back or spends it.
-#[derive(Debug)]
 pub struct Stint {
     scenario: u16,
     user: u32,
@@ -76,18 +75,5 @@ impl Stint {
             item: _,
             until: _,
         } = self;
-    }
-}
-
-#[cfg(test)]
-mod tests {
-    use super::*;
-
-    #[test]
-    fn tells_its_numbers(rt: HostRuntime) {
-        let stint = Stint::new(1, 2, 3, 4);
-        let told = (stint.scenario(), stint.user(), stint.item(), stint.until());
-        assert_eq!(rt; told, (1, 2, 3, 4));
-        stint.spend();
     }
 }

@@ -7,7 +7,7 @@ use std::marker::Model;
 
 /// The samples of one iteration, in the order in which they were taken, with the room that was
 /// reserved for them.
-#[derive(Debug, Drop)]
+#[derive(Drop)]
 pub struct Tally {
     samples: Vec<Sample>,
     room: u32,
@@ -68,38 +68,5 @@ impl Tally {
         ensures { result ≡ slice_get self.now.samples at }
     {
         self.samples.get(at as usize).copied()
-    }
-}
-
-#[cfg(test)]
-mod tests {
-    use super::*;
-
-    fn sample(sent: u64) -> Sample {
-        Sample {
-            name: 1,
-            status: 200,
-            span: 7,
-            sent,
-            received: 9,
-            failed: false,
-            check_bits: 3,
-        }
-    }
-
-    #[test]
-    fn keeps_samples_in_order(rt: HostRuntime) -> Result<(), BaseFault> {
-        let mut tally = Tally::new(rt.alloc(), 2)?;
-        assert_eq!(rt; tally.len(), 0);
-        tally.push(sample(4));
-        tally.push(sample(5));
-        assert_eq!(rt; tally.len(), 2);
-        for (at, want) in [(0, Some(4)), (1, Some(5)), (2, None), (u32::MAX, None)] {
-            assert_eq!(rt; tally.get(at), want.map(sample), "at {at}");
-        }
-        let empty = Tally::empty(rt.alloc());
-        assert_eq!(rt; empty.len(), 0);
-        assert_eq!(rt; empty.get(0), None);
-        Ok(())
     }
 }

@@ -3,7 +3,7 @@
 /// `user` is a user's number, from 1, and `slot` and `item` count from 0. `until` is the moment at
 /// which the iteration is to have ended, and `due` the one at which the item is due; both are in
 /// nanoseconds from the run's start.
-#[derive(Clone, Copy, Debug, PartialEq, Eq)]
+#[derive(Clone, Copy, PartialEq, Eq)]
 pub enum Wish {
     /// Nothing is to be done at this reading.
     Nothing,

@@ -8,7 +8,7 @@ use std::marker::Model;
 
 /// What each user plays, if anything, by its number from 1, with the number of those that play. All of its
 /// memory is taken when it is made.
-#[derive(Debug, Drop)]
+#[derive(Drop)]
 pub struct BusyUsers {
     users: Vec<Option<Busy>>,
     count: u32,

@@ -14,6 +14,3 @@ pub use crate::machine::Core;
 pub use busy::Busy;
 pub use fault::CoreFault;
 pub use laws::every_run;
-
-#[cfg(test)]
-mod tests;

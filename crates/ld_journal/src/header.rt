@@ -1,7 +1,7 @@
 use ld_base::{Bytes, Text};
 
 /// What a journal says of the run that it is of.
-#[derive(Debug, Drop)]
+#[derive(Drop)]
 pub struct Header {
     /// The test file, byte by byte: at most 1,048,576 bytes.
     pub test: Bytes,

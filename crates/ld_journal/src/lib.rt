@@ -14,6 +14,3 @@ pub use fault::JournalFault;
 pub use header::Header;
 pub use journal::write;
 pub use laws::{arrival_dropped_text, lines_counted};
-
-#[cfg(test)]
-mod tests;

@@ -13,6 +13,3 @@ pub use doc::Doc;
 pub use fault::JsonFault;
 pub use node::Node;
 pub use path::Path;
-
-#[cfg(test)]
-mod tests;

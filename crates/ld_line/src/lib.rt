@@ -6,6 +6,3 @@ mod word;
 
 pub use laws::words_again;
 pub use word::{Word, put_line, put_words};
-
-#[cfg(test)]
-mod tests;

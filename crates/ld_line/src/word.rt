@@ -4,7 +4,7 @@ ghost use Rattle.ld_line.specs.Line.{Grows, joined, line, next_text, word_text};
 use ld_base::{BaseFault, put_number};
 
 /// One word of a line.
-#[derive(Clone, Copy, Debug)]
+#[derive(Clone, Copy)]
 pub enum Word<'a> {
     /// A text, which is written as it stands.
     Text(&'a [u8]),

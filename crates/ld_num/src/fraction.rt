@@ -9,7 +9,7 @@ use std::cmp::Ordering;
 
 /// A fraction in lowest terms: the denominator is at least 1, and no number but 1 divides both. So
 /// a value has one such pair.
-#[derive(Clone, Copy, Debug, PartialEq, Eq)]
+#[derive(Clone, Copy, PartialEq, Eq)]
 pub struct Frac {
     /// The numerator.
     pub num: u64,

@@ -16,6 +16,3 @@ pub use duration::{print_duration, read_duration};
 pub use fault::NumFault;
 pub use fraction::Frac;
 pub use multiple::lcm;
-
-#[cfg(test)]
-mod tests;

@@ -1,6 +1,6 @@
 /// How the iterations of a scenario are planned, as k6's executors
 /// (<https://grafana.com/docs/k6/latest/using-k6/scenarios/executors/>).
-#[derive(Clone, Copy, Debug, PartialEq, Eq)]
+#[derive(Clone, Copy, PartialEq, Eq)]
 pub enum Executor {
     /// `constant-arrival-rate`: iterations begin at a constant rate, whether earlier ones have
     /// ended or not.

@@ -9,7 +9,7 @@ use ld_json::Node;
 use std::alloc::Global;
 
 /// A kind of executor.
-#[derive(Clone, Copy, Debug, PartialEq, Eq)]
+#[derive(Clone, Copy, PartialEq, Eq)]
 pub(crate) enum Kind {
     ConstantArrivals,
 }

@@ -21,6 +21,3 @@ pub use laws::one_meaning;
 pub use options::Options;
 pub use scenario::Scenario;
 pub use scenarios::Scenarios;
-
-#[cfg(test)]
-mod tests;

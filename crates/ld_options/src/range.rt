@@ -1,5 +1,5 @@
 /// The range of a number, both ends among it.
-#[derive(Clone, Copy, Debug, PartialEq, Eq)]
+#[derive(Clone, Copy, PartialEq, Eq)]
 pub struct Range {
     /// The least.
     pub least: u64,

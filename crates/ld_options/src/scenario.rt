@@ -6,7 +6,7 @@ use std::alloc::{AllocError, Global};
 
 /// A scenario of a test, as k6's options of the same names
 /// (<https://grafana.com/docs/k6/latest/using-k6/scenarios/>).
-#[derive(Debug, Drop)]
+#[derive(Drop)]
 pub struct Scenario {
     /// The name: 1 to 64 letters, digits, `_` and `-`.
     pub name: Text,

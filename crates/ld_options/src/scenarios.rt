@@ -5,7 +5,7 @@ use std::alloc::{AllocError, Global};
 use std::marker::Model;
 
 /// The scenarios of a test, in byte order of their names. Their numbers are in their ranges.
-#[derive(Debug, Drop)]
+#[derive(Drop)]
 pub struct Scenarios {
     items: Vec<Scenario>,
 }

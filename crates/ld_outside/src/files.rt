@@ -4,7 +4,7 @@ use ld_base::{Bytes, Text};
 use std::marker::Model;
 
 /// A list of files, each its name and its bytes. Of several pairs of one name the first is the file.
-#[derive(Debug, Drop)]
+#[derive(Drop)]
 pub struct Files {
     pairs: Vec<(Text, Bytes)>,
 }

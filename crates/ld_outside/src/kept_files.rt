@@ -11,7 +11,7 @@ use std::alloc::{AllocError, Global};
 use std::marker::Model;
 
 /// The files of a shelf in memory, and its calls so far. A call that lacks memory changes nothing.
-#[derive(Debug, Drop)]
+#[derive(Drop)]
 pub(crate) struct KeptFiles {
     alloc: Global,
     files: Vec<(Text, Bytes)>,

@@ -26,6 +26,3 @@ pub use sink::{Sink, SinkFault, put_all};
 pub use stream_sink::{ErrSink, OutSink};
 pub use sure_shelf::SureShelf;
 pub use sure_sink::SureSink;
-
-#[cfg(test)]
-mod tests;

@@ -9,7 +9,7 @@ use std::marker::Model;
 /// A shelf in memory, which tells its files and its calls. It fails at the calls whose numbers it was
 /// given, and at each read of a file that isn't there. An append that fails leaves the first half of its
 /// piece.
-#[derive(Debug, Drop)]
+#[derive(Drop)]
 pub struct MemShelf {
     kept: KeptFiles,
     failing: Numbers,

@@ -6,7 +6,7 @@ use std::marker::Model;
 /// A sink in memory, which tells what it took. It fails at the calls whose numbers it was given, and
 /// takes each other piece whole. It is seen as these, with the numbers of calls and of faults so
 /// far.
-#[derive(Debug, Drop)]
+#[derive(Drop)]
 pub struct MemSink {
     taken: Vec<u8>,
     failing: Numbers,

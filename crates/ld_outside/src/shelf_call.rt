@@ -1,7 +1,7 @@
 use ld_base::Text;
 
 /// What a call of a shelf does with a file.
-#[derive(Clone, Copy, Debug, PartialEq, Eq)]
+#[derive(Clone, Copy, PartialEq, Eq)]
 pub enum ShelfCallKind {
     /// The file is made empty.
     Start,
@@ -12,7 +12,7 @@ pub enum ShelfCallKind {
 }
 
 /// One call of a shelf, as the shelf tells it.
-#[derive(Debug, Drop)]
+#[derive(Drop)]
 pub struct ShelfCall {
     /// What the call did.
     pub kind: ShelfCallKind,

@@ -7,7 +7,7 @@ use std::marker::Model;
 
 /// A shelf in memory that never fails, but for want of memory. It reads a file that isn't there as an empty
 /// one, and answers `TooLong` as each shelf does. It is seen as its files and its calls.
-#[derive(Debug, Drop)]
+#[derive(Drop)]
 pub struct SureShelf {
     kept: KeptFiles,
 }

@@ -3,7 +3,7 @@ use std::alloc::Global;
 use std::marker::Model;
 
 /// A sink in memory that never fails, but for want of memory. It is seen as the bytes that it took.
-#[derive(Debug, Drop)]
+#[derive(Drop)]
 pub struct SureSink {
     taken: Vec<u8>,
 }

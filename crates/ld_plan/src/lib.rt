@@ -18,6 +18,3 @@ pub use laws::{
 pub use plan::Plan;
 pub use row::Row;
 pub use users::Users;
-
-#[cfg(test)]
-mod tests;

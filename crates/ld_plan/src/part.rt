@@ -14,7 +14,7 @@ use std::marker::Model;
 
 // What an instance owns of one scenario. It is seen as its part of the machine's plan, beside the
 // scenario of the whole test.
-#[derive(Debug, Drop)]
+#[derive(Drop)]
 pub struct Part {
     name: Text,
     begin: u64,

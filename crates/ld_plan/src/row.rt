@@ -1,6 +1,6 @@
 /// What an instance owns of one scenario, in numbers. Moments are in nanoseconds from the run's
 /// start.
-#[derive(Clone, Copy, Debug, PartialEq, Eq)]
+#[derive(Clone, Copy, PartialEq, Eq)]
 pub struct Row {
     /// When the scenario begins.
     pub begin: u64,

@@ -1,5 +1,5 @@
 /// How many users a plan needs.
-#[derive(Clone, Copy, Debug, PartialEq, Eq)]
+#[derive(Clone, Copy, PartialEq, Eq)]
 pub struct Users {
     /// How many are made before the run: the most that all scenarios together plan at one moment.
     pub planned: u32,

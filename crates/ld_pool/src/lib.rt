@@ -13,6 +13,3 @@ pub use laws::{
 };
 pub use pool::Pool;
 pub use user::User;
-
-#[cfg(test)]
-mod tests;

@@ -10,7 +10,7 @@ use std::alloc::Global;
 use std::marker::Model;
 
 /// The users of an instance, numbered from 1. All of its memory is taken when it is made.
-#[derive(Debug, Drop)]
+#[derive(Drop)]
 pub struct Pool {
     users: Vec<User>,
     free: u32,

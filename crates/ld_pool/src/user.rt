@@ -4,7 +4,7 @@ ghost use Rattle.ld_pool.specs.Users.{holder_of, is_busy, is_free};
 /// What a pool knows of one user.
 ///
 /// A scenario's number counts from 0, in byte order of the scenarios' names.
-#[derive(Clone, Copy, Debug)]
+#[derive(Clone, Copy)]
 pub enum User {
     /// No scenario holds the user.
     Free,

@@ -1,5 +1,5 @@
 /// The iteration that a user plays.
-#[derive(Clone, Copy, Debug, PartialEq, Eq)]
+#[derive(Clone, Copy, PartialEq, Eq)]
 pub struct Play {
     /// The item's index, from 0.
     pub item: u64,
@@ -8,7 +8,7 @@ pub struct Play {
 }
 
 /// A user that a scenario holds.
-#[derive(Clone, Copy, Debug, PartialEq, Eq)]
+#[derive(Clone, Copy, PartialEq, Eq)]
 pub struct HeldUser {
     /// Its number, from 1.
     pub user: u32,

@@ -9,7 +9,7 @@ use std::marker::Model;
 
 /// The users that a scenario holds, in order of their numbers, with the room that was reserved for
 /// them.
-#[derive(Debug, Drop)]
+#[derive(Drop)]
 pub struct HeldUsers {
     users: Vec<HeldUser>,
     room: u32,

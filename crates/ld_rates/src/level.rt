@@ -1,5 +1,5 @@
 /// Whether a scenario goes on.
-#[derive(Clone, Copy, Debug, PartialEq, Eq)]
+#[derive(Clone, Copy, PartialEq, Eq)]
 pub enum Level {
     /// It runs.
     Runs,

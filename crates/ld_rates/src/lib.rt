@@ -17,6 +17,3 @@ pub use laws::{distinct_items, enabled_acts, shown_numbers};
 pub use level::Level;
 pub use rates_part::RatesPart;
 pub use rates_state::RatesState;
-
-#[cfg(test)]
-mod tests;

@@ -6,7 +6,7 @@ use std::marker::Model;
 
 /// The arrivals that are still open, in order: the next one, and those that the ticker still gives.
 /// They are seen as their items, each with its moment in nanoseconds from the scenario's begin.
-#[derive(Debug, Drop)]
+#[derive(Drop)]
 pub struct OpenArrivals {
     first: Option<(u64, u64)>,
     rest: Ticker,

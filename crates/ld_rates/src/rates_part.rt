@@ -1,7 +1,7 @@
 use ld_arrival::Ticker;
 
 /// What one instance owns of a scenario at an arrival rate. Moments and times are in nanoseconds.
-#[derive(Debug, Drop)]
+#[derive(Drop)]
 pub struct RatesPart {
     /// The scenario's begin, from the run's start.
     pub begin: u64,

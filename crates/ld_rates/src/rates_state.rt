@@ -23,7 +23,7 @@ use std::marker::Model;
 
 /// One scenario at an arrival rate, as it stands: its part, its level, the users that it holds and the
 /// arrivals that are still open. Readings and moments are in nanoseconds from the run's start.
-#[derive(Debug, Drop)]
+#[derive(Drop)]
 pub struct RatesState {
     begin: u64,
     end: u64,

@@ -7,7 +7,7 @@ use std::alloc::{AllocError, Global};
 use std::marker::Model;
 
 /// An iteration under way, whose length is known.
-#[derive(Clone, Copy, Debug, PartialEq, Eq)]
+#[derive(Clone, Copy, PartialEq, Eq)]
 pub struct Due {
     /// The scenario's number, from 0 in byte order of the scenarios' names.
     pub scenario: u16,
@@ -23,7 +23,7 @@ pub struct Due {
 
 /// The iteration that each user plays, if it plays one, by its number from 1. All of its memory is taken when
 /// it is made.
-#[derive(Debug, Drop)]
+#[derive(Drop)]
 pub struct Dues {
     users: Vec<Option<Due>>,
 }

@@ -2,7 +2,7 @@ use ld_base::Room;
 
 /// Where the journal has no room for an act: which of its limits was met, how many places the act
 /// would need in all, and the limit.
-#[derive(Clone, Copy, Debug, PartialEq, Eq)]
+#[derive(Clone, Copy, PartialEq, Eq)]
 pub struct FullJournal {
     /// Which limit was met: that on entries, or that on samples.
     pub room: Room,

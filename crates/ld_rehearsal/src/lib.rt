@@ -10,6 +10,3 @@ mod stage;
 pub use fault::RehearsalFault;
 pub use full::FullJournal;
 pub use play::{Rehearsed, rehearse};
-
-#[cfg(test)]
-mod tests;

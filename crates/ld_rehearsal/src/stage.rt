@@ -8,7 +8,7 @@ use ld_plan::Plan;
 use std::alloc::Global;
 
 /// What became of an ask for an act.
-#[derive(Clone, Copy, Debug)]
+#[derive(Clone, Copy)]
 pub enum Said {
     /// The pool performed an act.
     Acted,

@@ -15,6 +15,3 @@ pub use name::is_name;
 pub use names::Names;
 pub use script::Script;
 pub use scripts::Scripts;
-
-#[cfg(test)]
-mod tests;

@@ -13,7 +13,7 @@ use ld_json::Node;
 use std::alloc::Global;
 
 /// What a virtual user does in one iteration. Scripts have no steps yet.
-#[derive(Clone, Copy, Debug, PartialEq, Eq)]
+#[derive(Clone, Copy, PartialEq, Eq)]
 pub struct Script {
     room: u32,
 }

@@ -21,6 +21,3 @@ pub use laws::{
 pub use segment::Segment;
 pub use sequence::Sequence;
 pub use weights_laws::{one_length, one_list_of_weights, one_period};
-
-#[cfg(test)]
-mod tests;

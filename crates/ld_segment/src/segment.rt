@@ -8,7 +8,7 @@ use ld_num::Frac;
 
 /// The part of a test from one point, which doesn't belong to it, to another, which does:
 /// `0 <= from < to <= 1`.
-#[derive(Clone, Copy, Debug, PartialEq, Eq)]
+#[derive(Clone, Copy, PartialEq, Eq)]
 pub struct Segment {
     /// The point behind which it begins.
     pub from: Frac,

@@ -15,7 +15,7 @@ const MOST_POINTS: u64 = 101;
 
 /// A list of rising points from 0 to 1, which cut a test into segments: two points or more. It is seen
 /// as the list of its points. It has at most 100 segments, also when it is filled.
-#[derive(Debug, Drop)]
+#[derive(Drop)]
 pub struct Sequence {
     points: Vec<Frac>,
 }

@@ -15,6 +15,3 @@ pub use laws::{
 };
 pub use segmented_index::SegmentedIndex;
 pub use stripe::Stripe;
-
-#[cfg(test)]
-mod tests;

@@ -8,7 +8,7 @@ use crate::stripe::Stripe;
 /// Where an instance stands among the indices that its position owns, as k6's execution segments count
 /// them: `unscaled` is the index that it stands at, plus 1, and `scaled` the number of that index among
 /// those that the position owns, from 1. Both are 0 before the first.
-#[derive(Clone, Copy, Debug, PartialEq, Eq)]
+#[derive(Clone, Copy, PartialEq, Eq)]
 pub struct SegmentedIndex {
     pub scaled: u64,
     pub unscaled: u64,

@@ -15,7 +15,7 @@ const GREATEST_PERIOD: u64 = 100_000;
 
 /// A striping: it says which position owns each index. It is seen as the weights of the positions,
 /// in lowest terms, and the owner of each index of one period.
-#[derive(Debug, Drop)]
+#[derive(Drop)]
 pub struct Stripe {
     weights: Vec<u64>,
     owners: Vec<usize>,

@@ -5,7 +5,7 @@ ghost use Rattle.ld_summary.specs.Counts.{AreAtMost, acts_in, acts_of, counts_of
 use ld_base::{Act, History, Outcome};
 
 /// How many acts of a scenario there are of each kind.
-#[derive(Clone, Copy, Debug, PartialEq, Eq)]
+#[derive(Clone, Copy, PartialEq, Eq)]
 pub struct Counts {
     /// The iterations that were started.
     pub started: u64,

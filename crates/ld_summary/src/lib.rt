@@ -15,6 +15,3 @@ pub use fault::SummaryFault;
 pub use laws::listed_arrivals;
 pub use plan_lines::plan_text;
 pub use text::summary_text;
-
-#[cfg(test)]
-mod tests;

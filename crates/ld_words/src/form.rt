@@ -11,7 +11,7 @@ use crate::option::OptionName;
 use crate::value::ValueKind;
 
 /// A form of commands.
-#[derive(Clone, Copy, Debug)]
+#[derive(Clone, Copy)]
 pub enum FormName {
     /// `stripe WEIGHTS POSITION N`.
     StripeWeights,

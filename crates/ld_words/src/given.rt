@@ -6,7 +6,7 @@ ghost use Rattle.ld_words.specs.OptionWords.{given_by};
 use crate::option::OptionName;
 
 /// An option that was read: its name and its value. A flag has the empty value.
-#[derive(Clone, Copy, Debug)]
+#[derive(Clone, Copy)]
 pub struct GivenOption<'a> {
     pub name: OptionName,
     pub value: &'a str,

@@ -22,6 +22,3 @@ pub use laws::one_meaning;
 pub use rate_test::rate_test_text;
 pub use weights::Weights;
 pub use words::{Words, read_words};
-
-#[cfg(test)]
-mod tests;

@@ -8,7 +8,7 @@ ghost use Rattle.ld_words.specs.declared.option.OptionName.{OptionName};
 use crate::value::ValueKind;
 
 /// The name of an option.
-#[derive(Clone, Copy, Debug, PartialEq, Eq)]
+#[derive(Clone, Copy, PartialEq, Eq)]
 pub enum OptionName {
     /// `--segment`: a part of a test.
     Segment,
@@ -76,7 +76,7 @@ impl OptionName {
 }
 
 /// What a word says of an option.
-#[derive(Clone, Copy, Debug)]
+#[derive(Clone, Copy)]
 pub enum OptionWord<'a> {
     /// The name alone.
     Name(OptionName),

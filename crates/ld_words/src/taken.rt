@@ -15,7 +15,7 @@ use std::alloc::Global;
 use std::marker::Model;
 
 /// The values that were taken of words: what stands at their places, and what their options are.
-#[derive(Debug, Drop)]
+#[derive(Drop)]
 pub struct TakenValues<'a> {
     matches: ArgMatches<'a>,
 }

@@ -16,7 +16,7 @@ const LEAST_ENTRIES: u32 = 10;
 const MOST_ENTRIES: u32 = 1_000_000;
 
 /// The kind of value that a word is, at its place or behind an option's name.
-#[derive(Clone, Copy, Debug)]
+#[derive(Clone, Copy)]
 pub enum ValueKind {
     /// Any value.
     Plain,

@@ -10,7 +10,7 @@ use std::alloc::{AllocError, Global};
 use std::marker::Model;
 
 /// Weights, one for each position, as they stand among the words.
-#[derive(Debug, Drop)]
+#[derive(Drop)]
 pub struct Weights {
     numbers: Vec<u64>,
 }

@@ -16,7 +16,7 @@ use ld_base::Text;
 use std::alloc::Global;
 
 /// What the words of a command line ask for. An option that isn't given is `None`.
-#[derive(Debug, Drop)]
+#[derive(Drop)]
 pub enum Words {
     /// `stripe WEIGHTS POSITION N`: the indices below `count` that the position owns.
     StripeWeights {
