@@ -112,6 +112,10 @@ none_busy a (suc n) = ap (λ (more : List (Option playing.Busy)). None ∷ more)
 pub of_part : (seen : PlanView) (one : HasOne seen) (P : Part → Type 0) → IsSomeAnd (slice_get seen.plan.parts 0) P → P one.view.part
 of_part seen one P holds = subst (λ (parts : List Part). IsSomeAnd (slice_get parts 0) P) one.parts holds
 
+-- a plan's one part is that of its scenario
+pub one_part_is : (seen : PlanView) (one : HasOne seen) (part : Part) → seen.plan.parts ≡ part ∷ [] → one.view.part ≡ part
+one_part_is seen one part parts = let both : one.view.part ∷ [] ≡ part ∷ [] = sym one.parts ∙ parts in cc
+
 -- what the part's executor is
 abbrev owned_executor : (seen : PlanView) → HasOne seen → Executor
 owned_executor seen one =

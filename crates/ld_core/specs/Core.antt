@@ -1,9 +1,11 @@
 -- What holds of a core's fields.
-use Rattle.std.specs.Prelude.{◌≡◌, ◌≤◌}
+use Rattle.std.specs.Prelude.{◌≡◌, ◌≤◌, false, []}
 use Rattle.ld_machine.specs.Effect.{state_after}
 use Rattle.ld_core.specs.CoreView.{CoreView}
 use Rattle.ld_core.specs.Shows.{Shows}
+use Rattle.ld_plan.specs.PlanView.{PlanView}
 use Rattle.ld_core.specs.declared.machine.Core.TheInside.{Inside}
+use Rattle.ld_core.specs.declared.opening.OpeningParts.{OpeningParts}
 
 abbrev pub core_view : Inside → CoreView
 core_view c = record { plan = c.plan; entries = c.history.entries }
@@ -16,3 +18,16 @@ pub record IsCore (c : Inside) : Type 0 where
   pub room : c.history.room ≡ c.plan.plan.entry_limit
   pub few : c.plan.plan.limit ≤ 1000
   pub most : c.plan.plan.entry_limit ≤ 1000000
+
+-- these parts make a core of this plan, with an empty history
+pub record IsOpening (plan : PlanView) (parts : OpeningParts) : Type 0 where
+  pub empty : parts.history.entries ≡ []
+  pub core : IsCore (record {
+    plan = plan;
+    pool = parts.pool;
+    scenario = parts.scenario;
+    busy = parts.busy;
+    stopped = false;
+    samples = 0;
+    history = parts.history;
+  })

@@ -3,7 +3,7 @@ use Rattle.std.specs.Prelude.{◌≡◌, ◌<◌, ◌≤◌, ◌+◌, ◌*◌, �
 use Rattle.std.specs.List.{AllByRecursion, range_with_len}
 use Rattle.std.specs.Option.{option_map_or}
 use Rattle.ld_machine.specs.Plan.{Part, Plan}
-use Rattle.ld_machine.specs.State.{Condition, Idle, Busy, HeldUser, Share, State, busy_users}
+use Rattle.ld_machine.specs.State.{Condition, Controls, Idle, Busy, HeldUser, Share, State, busy_users, opening_share}
 use Rattle.ld_pool.specs.Pool.{PoolView}
 use Rattle.ld_pool.specs.declared.user.User.{User}
 use Rattle.ld_pool.specs.declared.user.User.TheVariants as users
@@ -61,3 +61,8 @@ pub record Shows (plan : Plan) (pool : PoolView) (kept : RatesView) (busy : List
   pub controls : state.controls ≡ record { paused = false; vus = 0; vus_max = 0 }
   pub room : state.entries + length (busy_users share) ≤ plan.entry_limit
   pub sample_room : state.samples + length (busy_users share) * part.sample_room ≤ plan.entry_limit
+
+-- a scenario's state shows the one scenario of a plan before anything was done
+abbrev pub ShowsOpening : Plan → RatesView → Type 0
+ShowsOpening plan kept = (part : Part) (controls : Controls) → plan.parts ≡ part ∷ [] →
+    rates.Shows kept (record { part = part; share = opening_share; controls = controls })

@@ -8,6 +8,7 @@ mod changes;
 mod fault;
 mod laws;
 mod machine;
+mod opening;
 mod room;
 
 pub use crate::machine::Core;

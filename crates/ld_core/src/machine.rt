@@ -2,10 +2,11 @@ ghost use Rattle.std.specs.Prelude.{◌≡◌, [], IfErr, IfOk};
 
 use crate::busy_users::BusyUsers;
 use crate::fault::CoreFault;
+use crate::opening::opening;
 use ld_base::{Ask, History, Reply, Stint};
 use ld_plan::Plan;
 use ld_pool::Pool;
-use ld_rates::{RatesPart, RatesState};
+use ld_rates::RatesState;
 use std::alloc::Global;
 use std::marker::Model;
 
@@ -47,29 +48,18 @@ impl Core {
         ensures empty { IfOk result (λ core. core.entries ≡ []) }
         ensures memory { IfErr result (λ f. f ≡ CoreFault.Memory) }
     {
-        let row = plan.row(0);
-        let users = plan.users();
-        let part = RatesPart {
-            begin: row.begin,
-            end: row.end,
-            grace: plan.grace(0),
-            pre: row.users,
-            max: row.max,
-            ticker: plan.ticker(alloc, 0)?,
-        };
-        let scenario = RatesState::new(alloc, part)?;
-        let pool = Pool::new(alloc, users.planned, users.limit)?;
-        let busy = BusyUsers::new(alloc, users.limit)?;
-        let history = History::new(alloc, plan.entries())?;
-        Ok(Core {
-            plan,
-            pool,
-            scenario,
-            busy,
-            stopped: false,
-            samples: 0,
-            history,
-        })
+        match opening(alloc, &plan) {
+            Ok(opening) => Ok(Core {
+                plan,
+                pool: opening.pool,
+                scenario: opening.scenario,
+                busy: opening.busy,
+                stopped: false,
+                samples: 0,
+                history: opening.history,
+            }),
+            Err(fault) => Err(fault),
+        }
     }
 
     /// Answers an ask of a thread at a reading, in nanoseconds from the run's start: it is one step of
