@@ -13,6 +13,7 @@ use Rattle.ld_segment.specs.Printed.{segment_text, sequence_text}
 use Rattle.ld_segment.specs.Segments.{segments_of}
 use Rattle.ld_summary.specs.Summary.{summary_text}
 use Rattle.ld_answer.specs.declared.answer.Answer.{Answer}
+use Rattle.ld_answer.specs.declared.rehearsal.Texts.{Texts}
 
 -- the segment at a position of a sequence, as it is printed
 abbrev pub segment_at : List Frac → ℕ → List ℕ
@@ -28,6 +29,11 @@ header_of test seen =
       sequence = sequence_text seen.sequence;
       entries = seen.plan.entry_limit;
     }
+
+-- what is written of a history: its journal under this name, and its summary
+pub record AreTexts (test : List ℕ) (seen : PlanView) (history : HistoryView) (journal : List ℕ) (texts : Texts) : Type 0 where
+  pub file : texts.file ≡ record { name = journal; bytes = journal_text (header_of test seen) history.entries }
+  pub summary : texts.summary ≡ summary_text (seen ∷ []) (history ∷ [])
 
 -- The plan of a test was rehearsed with iterations of this length. The file has the journal of that history,
 -- and the text is its summary. Where there was room for all, each arrival was answered, and none late; else the

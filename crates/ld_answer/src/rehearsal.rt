@@ -4,7 +4,7 @@ ghost use Rattle.ld_journal.specs.Journal.{journal_text};
 ghost use Rattle.ld_journal.specs.Writable.{IsWritable};
 ghost use Rattle.ld_machine.specs.History.{IsLegal};
 ghost use Rattle.ld_summary.specs.Summary.{summary_text};
-ghost use Rattle.ld_answer.specs.Rehearsal.{header_of, IsRehearsalAnswer};
+ghost use Rattle.ld_answer.specs.Rehearsal.{header_of, AreTexts, IsRehearsalAnswer};
 
 use crate::answer::{Answer, NamedFile};
 use crate::refusal::Refusal;
@@ -37,13 +37,43 @@ pub fn rehearsal_answer(
         history,
         full,
     } = rehearse(alloc, plan, iteration)?;
-    let text = summary_of(alloc, &plan, &history)?;
-    let bytes = journal_bytes(alloc, &test, &plan, history)?;
+    match texts_of(alloc, &test, &plan, history, journal) {
+        Ok(texts) => Ok(Answer {
+            file: Some(texts.file),
+            text: texts.summary,
+            full,
+        }),
+        Err(refusal) => Err(refusal),
+    }
+}
+
+/// What is written of a history: its journal, and its summary.
+#[derive(Drop)]
+pub struct Texts {
+    pub file: NamedFile,
+    pub summary: Text,
+}
+
+// What is written of a history of a test's plan. The journal has this name.
+fn texts_of(
+    alloc: Global,
+    test: &[u8],
+    plan: &Plan,
+    history: History,
+    journal: &Text,
+) -> Result<Texts, Refusal>
+    requires legal { IsLegal plan.now.plan history.entries }
+    requires writable { IsWritable (header_of test.now plan.now) history.entries }
+    ensures { MatchResult result
+        (AreTexts test.now plan.now history journal.now)
+        (λ refusal. refusal ≡ Refusal.Memory) }
+{
+    let summary = summary_of(alloc, plan, &history)?;
+    let bytes = journal_bytes(alloc, test, plan, history)?;
     let name = Text::of(Vec::from_slice(alloc, journal.as_slice())?);
-    Ok(Answer {
-        file: Some(NamedFile { name, bytes }),
-        text,
-        full,
+    Ok(Texts {
+        file: NamedFile { name, bytes },
+        summary,
     })
 }
 

@@ -4,6 +4,7 @@
 mod executor;
 mod fault;
 mod laws;
+mod owned;
 mod part;
 mod plan;
 mod row;

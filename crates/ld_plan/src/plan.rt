@@ -1,23 +1,13 @@
-ghost use Rattle.std.specs.Prelude.{◌≡◌, ◌≢◌, ◌<◌, ◌≤◌, ◌∷◌, [], length, sum, IfErr, IfOk};
-ghost use Rattle.ld_stripe.specs.Striping.{IsStriping};
-ghost use Rattle.ld_options.specs.Ranges.{AreInRange};
-ghost use Rattle.ld_options.specs.declared.options.Options.{Options};
-ghost use Rattle.ld_plan.specs.IsPlanOf.{sample_room, AreOwned};
-ghost use Rattle.ld_plan.specs.PlanFault.{AreFew, IsFirstMany};
-ghost use Rattle.ld_plan.specs.declared.fault.PlanFault.TheVariants.{Memory};
-
 use crate::fault::PlanFault;
+use crate::owned::owned_of;
 use crate::part::Part;
 use crate::row::Row;
-use crate::striping::of_sequence;
 use crate::users::Users;
 use ld_arrival::Ticker;
 use ld_base::Text;
 use ld_options::Options;
-use ld_script::Scripts;
 use ld_segment::{Segment, Sequence};
-use ld_stripe::Stripe;
-use std::alloc::{AllocError, Global};
+use std::alloc::Global;
 use std::marker::Model;
 
 /// The plan of one instance: what a segment of a sequence owns of a test, and how many users that
@@ -90,27 +80,17 @@ impl Plan {
         ensures unrefused { IfOk result (λ _. (f : PlanFault) → IsRefusal options segment sequence entries f → ⊥) }
         ensures refused { IfErr result (λ f. f ≢ Memory → IsRefusal options segment sequence entries f) }
     {
-        let Some(position) = sequence.position(&segment) else {
-            return Err(PlanFault::NotInSequence);
-        };
-        let positions = of_sequence(alloc, &sequence)?;
-        let part = owned_part(alloc, &options, positions, position)?;
-        let needed = 2 * part.owned() + 1;
-        if needed > entries as u64 {
-            return Err(PlanFault::JournalTooSmall {
-                needed,
-                limit: entries,
-            });
+        match owned_of(alloc, &options, &segment, &sequence, entries) {
+            Ok(owned) => Ok(Plan {
+                options,
+                sequence,
+                position: owned.position,
+                parts: owned.parts,
+                users: owned.users,
+                entries,
+            }),
+            Err(fault) => Err(fault),
         }
-        let users = part.requirement();
-        Ok(Plan {
-            options,
-            sequence,
-            position,
-            parts: one_part(alloc, part)?,
-            users,
-            entries,
-        })
     }
 
     /// The options of the test.
@@ -256,46 +236,5 @@ impl Plan {
         ensures memory { IfErr result (λ f. f ≡ Memory) }
     {
         self.part(scenario).ticker(alloc)
-    }
-}
-
-// The list of one part.
-fn one_part(alloc: Global, part: Part) -> Result<Vec<Part>, AllocError>
-    ensures { IfOk result (λ parts. parts.items ≡ part ∷ []) }
-{
-    match Vec::from_array(alloc, [part]) {
-        Ok(parts) => Ok(parts),
-        Err(failed) => Err(AllocError::from(failed)),
-    }
-}
-
-// What a position owns of the one scenario of a test.
-fn owned_part(
-    alloc: Global,
-    options: &Options,
-    positions: Stripe,
-    position: usize,
-) -> Result<Part, PlanFault>
-    requires striping { IsStriping positions.weights positions.owners }
-    requires some { 0 < sum positions.weights }
-    requires inside { position < length positions.weights }
-    ensures owned { IfOk result (λ part. AreOwned options.now positions position (part ∷ [])) }
-    ensures few { IfOk result (λ _. AreFew options.now.scenarios) }
-    ensures in_range { IfOk result (λ _. AreInRange options.now.scenarios) }
-    ensures refused { IfErr result (λ f. f ≢ Memory → IsFirstMany options.now.scenarios f) }
-{
-    let scenario = &options.scenarios.as_slice()[0];
-    let room = sample_room(&options.scripts, scenario.script);
-    Part::of(alloc, 0, scenario, room, positions, position)
-}
-
-// How many samples an iteration of a script may give.
-fn sample_room(scripts: &Scripts, at: u16) -> u32
-    ensures { result ≡ sample_room scripts.now.scripts at }
-{
-    if at < scripts.count() {
-        scripts.script(at).sample_room()
-    } else {
-        0
     }
 }
