@@ -1,28 +1,28 @@
 -- The plans of all positions of a sequence have the whole test together.
-use Rattle.std.proofs.Common.{◌≡◌, ◌<◌, ◌≤◌, ◌+◌, ◌∙◌, ℕ, zero, suc, List, [], ◌∷◌, ◌++◌, length, map, slice_get, arith, ap, ap₂, refl, sym, subst}
-use Rattle.std.specs.Prelude.{IsPermutation, IsSomeAnd, Some, None, Option, sum, sum_by}
+use Rattle.std.proofs.Common.{◌≡◌, ◌∙◌, ℕ, zero, suc, List, [], ◌∷◌, ◌++◌, length, map, slice_get, arith, ap, ap₂, refl, sym, subst}
+use Rattle.std.specs.Prelude.{IsPermutation, Some, None, Option, sum, sum_by}
 use Rattle.std.specs.List.{AllByRecursion, AllZip, flat_map, range_with_len}
 use Rattle.std.specs.Option.{option_map_or}
 use Rattle.std.proofs.lemmas.List.{map-append}
 use Rattle.std.proofs.lemmas.List.Concat.{flat_map-cons}
 use Rattle.std.proofs.lemmas.List.Sorted.{IsPermutation-map}
-use Rattle.std.proofs.lemmas.List.Sums.{sum_by-cons, sum-map}
+use Rattle.std.proofs.lemmas.List.Sums.{sum_by-cons}
 use Rattle.std.proofs.lemmas.Option.{slice_get-map, same_Some}
 use Rattle.ld_num.specs.declared.fraction.Frac.{Frac}
 use Rattle.ld_segment.specs.Segments.{segments_of}
 use Rattle.ld_segment.specs.declared.segment.Segment.{Segment}
-use Rattle.ld_stripe.specs.Striping.{Striping, IsStripingOf, share_at, shares_at}
+use Rattle.ld_stripe.specs.Striping.{Striping, share_at, shares_at}
 use Rattle.ld_stripe.proofs.StripingLaws.{shares_sum}
 use Rattle.ld_arrival.specs.Schedule.{owned_pairs, schedule}
 use Rattle.ld_arrival.proofs.ScheduleLaws.{owned_whole}
-use Rattle.ld_machine.specs.Plan.{Arrival, Part}
+use Rattle.ld_machine.specs.Plan.{Part}
 use Rattle.ld_machine.specs.Scenario.{executor_arrivals}
 use Rattle.ld_options.specs.Ranges.{IsScenarioInRange}
 use Rattle.ld_options.specs.declared.options.Options.{Options}
 use Rattle.ld_options.specs.declared.scenario.Scenario.{Scenario}
 use Rattle.ld_plan.specs.Executor.{timetable_of, pre_of, max_of}
-use Rattle.ld_plan.specs.IsPlanOf.{IsItemStriping, IsPartOf, IsPlanOf, IsSequenceStriping, IsSound, part_of, sample_room, whole_of}
-use Rattle.ld_plan.specs.PartView.{PartView, parts_of}
+use Rattle.ld_plan.specs.IsPlanOf.{IsItemStriping, IsPartOf, IsPlanOf, IsSequenceStriping, IsSound, part_of, sample_room}
+use Rattle.ld_plan.specs.PartView.{PartView}
 use Rattle.ld_plan.specs.PlanView.{PlanView, arrival_of}
 use Rattle.ld_plan.specs.Requirement.{most_owned_users, owned_users}
 use Rattle.ld_plan.specs.Whole.{AreAllPlans, arrivals_at, most_users_at, users_at}

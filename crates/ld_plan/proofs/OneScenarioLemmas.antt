@@ -1,32 +1,20 @@
 -- A plan of a test with one scenario has one part, which is well timed and needs the users that it owns.
-use Rattle.std.proofs.Common.{◌≡◌, ◌<◌, ◌≤◌, ◌+◌, ◌∙◌, ◌∷◌, [], ℕ, zero, suc, List, length, map, arith, ap, refl, sym, subst}
-use Rattle.std.specs.Prelude.{Contains, sum_by}
+use Rattle.std.proofs.Common.{◌≡◌, ◌≤◌, ◌∙◌, ◌∷◌, [], List, length, arith, ap, refl, sym, subst}
+use Rattle.std.specs.Prelude.{Contains}
 use Rattle.std.specs.List.{AllByRecursion, AllZip}
-use Rattle.std.proofs.Math.Decide.{dec_lt}
 use Rattle.std.proofs.lemmas.List.Elements.{All-contains, All-cons, All-nil}
-use Rattle.ld_num.specs.declared.fraction.Frac.{Frac}
-use Rattle.ld_segment.specs.Segments.{segments_of}
-use Rattle.ld_segment.specs.declared.segment.Segment.{Segment}
-use Rattle.ld_stripe.specs.Striping.{Striping, owner_at, share_at}
+use Rattle.ld_stripe.specs.Striping.{Striping, share_at}
 use Rattle.ld_stripe.proofs.StripingLaws.{share_at_most}
-use Rattle.ld_arrival.specs.Timetable.{end_of}
-use Rattle.ld_arrival.proofs.CountLemmas.{ends_within}
-use Rattle.ld_machine.specs.Moment.{last_moment, moment_after}
-use Rattle.ld_machine.specs.Plan.{Arrival, ArrivalRate, Part, due_moment, hard_moment}
-use Rattle.ld_machine.specs.Scenario.{executor_arrivals}
+use Rattle.ld_machine.specs.Plan.{Part}
 use Rattle.ld_machine.specs.WellTimed.{IsWellTimed, WellTimed}
-use Rattle.ld_options.specs.Ranges.{IsInRange, IsScenarioInRange}
-use Rattle.ld_options.specs.declared.executor.Executor.{Executor}
-use Rattle.ld_options.specs.declared.executor.Executor.TheVariants.{ConstantArrivals}
-use Rattle.ld_options.specs.declared.options.Options.{Options}
+use Rattle.ld_options.specs.Ranges.{IsScenarioInRange}
 use Rattle.ld_options.specs.declared.scenario.Scenario.{Scenario}
-use Rattle.ld_plan.specs.Executor.{timetable_of, pre_of, max_of}
-use Rattle.ld_plan.specs.IsPlanOf.{IsPartOf, IsPlanOf, IsSound, part_of, sample_room, whole_of}
+use Rattle.ld_plan.specs.Executor.{pre_of, max_of}
+use Rattle.ld_plan.specs.IsPlanOf.{IsPartOf, part_of, sample_room}
 use Rattle.ld_plan.specs.Plan.{IsMade}
 use Rattle.ld_plan.specs.PartView.{PartView, parts_of, wholes_of}
-use Rattle.ld_plan.specs.PlanView.{PlanView, Whole}
+use Rattle.ld_plan.specs.PlanView.{PlanView}
 use Rattle.ld_plan.specs.Requirement.{IsRequirement}
-use Rattle.ld_plan.proofs.OwnedLemmas.{owned_planned}
 use Rattle.ld_plan.proofs.PartLemmas.{few_users, pre_within}
 use Rattle.ld_plan.proofs.StripingLemmas.{share_rises}
 use Rattle.ld_plan.proofs.TimedLemmas.{begins_before_end, part_timed}

@@ -1,6 +1,6 @@
 -- What a position owns of each scenario, and that there is one such list of parts.
-use Rattle.std.proofs.Common.{◌≡◌, ◌<◌, ◌≤◌, ◌∙◌, inl, inr, ℕ, zero, suc, List, [], ◌∷◌, length, slice_get, arith, ap, ap₂, refl, sym, subst}
-use Rattle.std.specs.Prelude.{Some, None}
+use Rattle.std.proofs.Common.{◌≡◌, ◌<◌, ◌≤◌, ◌∙◌, inl, inr, ℕ, List, [], ◌∷◌, length, slice_get, arith, ap, ap₂, refl, sym, subst}
+use Rattle.std.specs.Prelude.{Some}
 use Rattle.std.specs.List.{AllByRecursion, AllZip}
 use Rattle.std.proofs.lemmas.Option.{slice_get_within}
 use Rattle.ld_num.specs.declared.fraction.Frac.{Frac}
@@ -8,19 +8,19 @@ use Rattle.ld_segment.specs.Refusal.{ends}
 use Rattle.ld_segment.specs.Segments.{segments_of}
 use Rattle.ld_segment.specs.declared.segment.Segment.{Segment}
 use Rattle.ld_segment.proofs.FillingLemmas.{one_position}
-use Rattle.ld_stripe.specs.Striping.{Striping, share_at, shares_at}
+use Rattle.ld_stripe.specs.Striping.{Striping, shares_at}
 use Rattle.ld_arrival.specs.Limits.{IsWithinLimits}
 use Rattle.ld_machine.specs.Plan.{Part}
-use Rattle.ld_options.specs.Ranges.{IsInRange, IsScenarioInRange, AreArrivalsInRange}
+use Rattle.ld_options.specs.Ranges.{IsInRange, IsScenarioInRange}
 use Rattle.ld_options.specs.declared.executor.Executor.{Executor}
 use Rattle.ld_options.specs.declared.executor.Executor.TheVariants.{ConstantArrivals}
 use Rattle.ld_options.specs.declared.options.Options.{Options}
 use Rattle.ld_options.specs.declared.scenario.Scenario.{Scenario}
 use Rattle.ld_plan.specs.Executor.{timetable_of, pre_of, max_of}
-use Rattle.ld_plan.specs.IsPlanOf.{AreOwned, AreParts, IsItemStriping, IsPartOf, IsSound, part_of, sample_room, whole_of}
+use Rattle.ld_plan.specs.IsPlanOf.{AreOwned, AreParts, IsPartOf, IsSound, part_of, sample_room, whole_of}
 use Rattle.ld_plan.specs.PartView.{PartView}
 use Rattle.ld_plan.specs.PlanView.{Whole}
-use Rattle.ld_plan.proofs.StripingLemmas.{IsSpread, one_rescaled, one_sequence_striping, rescaled_spread, sequence_spread, sequence_striping, striping_of}
+use Rattle.ld_plan.proofs.StripingLemmas.{IsSpread, one_rescaled, one_sequence_striping, sequence_spread, sequence_striping, striping_of}
 
 -- numbers in their ranges: the timetable is within the limits
 pub within_limits : (e : Executor) → IsInRange e → IsWithinLimits (timetable_of e)

@@ -1,15 +1,12 @@
 -- A segment of a test has one plan, and of a test with one scenario it has one part.
-use Rattle.std.proofs.Common.{◌≡◌, ◌<◌, ◌≤◌, ◌∙◌, ◌∷◌, [], ℕ, List, length, map, arith, ap, ap₂, refl, sym, subst}
-use Rattle.std.specs.List.{AllByRecursion, AllZip}
+use Rattle.std.proofs.Common.{◌≡◌, ◌∙◌, ℕ, List, ap, sym, subst}
 use Rattle.ld_num.specs.declared.fraction.Frac.{Frac}
 use Rattle.ld_segment.specs.declared.segment.Segment.{Segment}
 use Rattle.ld_machine.specs.Plan.{Part, Plan}
-use Rattle.ld_options.specs.Ranges.{IsScenarioInRange}
 use Rattle.ld_options.specs.declared.options.Options.{Options}
-use Rattle.ld_options.specs.declared.scenario.Scenario.{Scenario}
-use Rattle.ld_plan.specs.IsPlanOf.{AreParts, IsPartOf, IsPlanOf, IsSound, sample_room}
-use Rattle.ld_plan.specs.PartView.{PartView, parts_of, wholes_of}
-use Rattle.ld_plan.specs.PlanView.{PlanView, Whole}
+use Rattle.ld_plan.specs.IsPlanOf.{IsPlanOf, IsSound}
+use Rattle.ld_plan.specs.PartView.{parts_of, wholes_of}
+use Rattle.ld_plan.specs.PlanView.{PlanView}
 use Rattle.ld_plan.specs.Requirement.{IsRequirement}
 use Rattle.ld_plan.proofs.PartLemmas.{one_parts, one_place}
 use Rattle.ld_plan.proofs.RequirementLemmas.{one_greatest}

@@ -1,7 +1,6 @@
 -- A segment of a test is accepted or has one refusal.
-use Rattle.std.proofs.Common.{◌≡◌, ◌<◌, ◌≤◌, ◌+◌, ◌*◌, ◌-◌, ◌^◌, ◌⊎◌, ◌∙◌, inl, inr, ℕ, zero, suc, List, [], ◌∷◌, length, slice_get, take, arith, ap, refl, sym, subst}
-use Rattle.std.specs.Prelude.{IsSomeAnd, Some, None, min}
-use Rattle.std.specs.List.{AllByRecursion}
+use Rattle.std.proofs.Common.{◌≡◌, ◌<◌, ◌≤◌, ◌+◌, ◌*◌, ◌-◌, ◌^◌, ◌⊎◌, ◌∙◌, inl, inr, ℕ, zero, suc, List, [], ◌∷◌, length, slice_get, arith, ap, refl, sym}
+use Rattle.std.specs.Prelude.{Some, min}
 use Rattle.std.proofs.Math.Decide.{dec_lt}
 use Rattle.std.proofs.lemmas.Option.{none-some, same_Some}
 use Rattle.ld_num.specs.declared.fraction.Frac.{Frac}
@@ -18,9 +17,9 @@ use Rattle.ld_options.specs.declared.scenario.Scenario.{Scenario}
 use Rattle.ld_plan.specs.Executor.{timetable_of}
 use Rattle.ld_stripe.specs.Striping.{Striping}
 use Rattle.ld_machine.specs.Plan.{owned_items}
-use Rattle.ld_plan.specs.IsPlanOf.{AreOwned, AreParts, IsSequenceStriping, IsSound}
+use Rattle.ld_plan.specs.IsPlanOf.{AreOwned, IsSequenceStriping, IsSound}
 use Rattle.ld_plan.specs.PartView.{PartView, parts_of}
-use Rattle.ld_plan.specs.PlanFault.{AreFew, HasFirstMany, HasShortPeriod, HasTooMany, IsAccepted, IsNeeded, IsRefusal, StandsAt, needed_entries}
+use Rattle.ld_plan.specs.PlanFault.{AreFew, HasFirstMany, HasShortPeriod, IsAccepted, IsNeeded, IsRefusal, StandsAt, needed_entries}
 use Rattle.ld_plan.specs.declared.fault.PlanFault.{PlanFault}
 use Rattle.ld_plan.specs.declared.fault.PlanFault.TheVariants.{NotInSequence, PeriodTooLarge, TooManyArrivals, JournalTooSmall, Memory}
 use Rattle.ld_plan.proofs.PartLemmas.{one_parts, some_parts}

@@ -1,7 +1,6 @@
 -- Weights have one striping, a filled sequence has one, and so have the items of a scenario.
-use Rattle.std.proofs.Common.{◌≡◌, ◌<◌, ◌≤◌, ◌+◌, ◌*◌, ◌/◌, ◌%◌, ◌∙◌, ℕ, zero, suc, List, [], ◌∷◌, length, get_or, map, nat_eq, take, arith, ap, ap₂, sym, subst, add-one}
+use Rattle.std.proofs.Common.{◌≡◌, ◌<◌, ◌≤◌, ◌*◌, ◌/◌, ◌%◌, ◌∙◌, ℕ, zero, suc, List, [], ◌∷◌, length, get_or, map, nat_eq, take, arith, ap, ap₂, sym, subst, add-one}
 use Rattle.std.specs.Prelude.{All, sum}
-use Rattle.std.specs.List.{range_with_len}
 use Rattle.std.proofs.Math.Decide.{dec_lt}
 use Rattle.std.proofs.lemmas.Bool.Decides.{nat_tests}
 use Rattle.std.proofs.lemmas.List.{length-map, take_all}
@@ -17,7 +16,7 @@ use Rattle.ld_segment.proofs.WeightsLengthLemmas.{gcd_of}
 use Rattle.ld_segment.proofs.WeightsPeriodLemmas.{period_exists}
 use Rattle.ld_segment.proofs.WeightsPeriodLemmas as periods
 use Rattle.ld_stripe.specs.StripeFault as stripe
-use Rattle.ld_stripe.specs.Striping.{Striping, IsGreatestDivisor, IsLowestTerms, IsStriping, IsStripingOf, owner_at, share_at, shares_at}
+use Rattle.ld_stripe.specs.Striping.{Striping, IsGreatestDivisor, IsStriping, IsStripingOf, owner_at, share_at, shares_at}
 use Rattle.ld_stripe.specs.declared.fault.StripeFault.{StripeFault}
 use Rattle.ld_stripe.specs.declared.fault.StripeFault.TheVariants as stripes
 use Rattle.ld_stripe.proofs.DueLemmas.{owners_in_range}

@@ -1,5 +1,5 @@
 -- The part of a scenario whose numbers are in their ranges is well timed.
-use Rattle.std.proofs.Common.{◌<◌, ◌≤◌, ℕ, arith}
+use Rattle.std.proofs.Common.{◌<◌, ℕ, arith}
 use Rattle.std.specs.Prelude.{Contains}
 use Rattle.ld_stripe.specs.Striping.{Striping}
 use Rattle.ld_arrival.specs.Timetable.{end_of}

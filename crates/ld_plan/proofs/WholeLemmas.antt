@@ -1,10 +1,8 @@
 -- The one position of a test that isn't cut owns every index.
-use Rattle.std.proofs.Common.{◌≡◌, ◌<◌, ◌≤◌, ◌∙◌, ℕ, List, [], ◌∷◌, arith, refl, ap, subst}
+use Rattle.std.proofs.Common.{◌≡◌, ℕ, List, [], ◌∷◌, arith, refl, ap, subst}
 use Rattle.std.specs.Int.{◌∣◌}
-use Rattle.std.proofs.Math.Nat.{eq-one_of_dvd-one, one-dvd}
 use Rattle.std.proofs.lemmas.List.Elements.{All-cons, All-head, All-nil}
 use Rattle.std.proofs.lemmas.Nat.Gcd.{dvd_refl}
-use Rattle.ld_num.specs.declared.fraction.Frac.{Frac}
 use Rattle.ld_segment.specs.Segments.{one_point, zero_point}
 use Rattle.ld_segment.specs.Weights.{HasPeriod, HasWeights}
 use Rattle.ld_stripe.specs.Striping.{IsStriping, IsStripingOf, IsLowestTerms, share_at}

@@ -1,7 +1,4 @@
-use Rattle.std.proofs.Common.{◌∙◌, ℕ, List, ap, ap₂}
-use Rattle.ld_journal.specs.Journal.{journal_text}
-use Rattle.ld_answer.specs.Rehearsal.{header_of}
-use Rattle.ld_answer.specs.declared.answer.NamedFile.{NamedFile}
+use Rattle.std.proofs.Common.{◌∙◌, ℕ, List, ap₂}
 use Rattle.ld_answer.proofs.rehearsal.texts_of.Goals as goal
 
 pub returns : goal.returns

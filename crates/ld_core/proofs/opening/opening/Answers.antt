@@ -1,4 +1,4 @@
-use Rattle.std.proofs.Common.{◌∙◌, [], ap, ap₂, arith, refl, replicate, ℕ}
+use Rattle.std.proofs.Common.{◌∙◌, [], ap, ap₂, arith, replicate, ℕ}
 use Rattle.std.specs.Prelude.{None}
 use Rattle.ld_base.specs.History.{HistoryView}
 use Rattle.ld_plan.proofs.OneScenarioLemmas.{has_one}

@@ -1,6 +1,6 @@
-use Rattle.std.proofs.Common.{◌≡◌, [], ◌∷◌, List, refl, arith, sym, subst, ap}
+use Rattle.std.proofs.Common.{refl, arith, subst}
 use Rattle.ld_machine.specs.Plan.{Part}
-use Rattle.ld_machine.specs.State.{Controls, opening_share}
+use Rattle.ld_machine.specs.State.{opening_share}
 use Rattle.ld_rates.specs.Shows as rates
 use Rattle.ld_rates.specs.declared.rates_part.RatesPart.{RatesPart}
 use Rattle.ld_plan.proofs.OneScenarioLemmas.{has_one, one_length}

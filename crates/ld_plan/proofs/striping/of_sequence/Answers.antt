@@ -1,4 +1,4 @@
-use Rattle.std.proofs.Common.{◌≡◌, subst}
+use Rattle.std.proofs.Common.{subst}
 use Rattle.ld_stripe.specs.StripeFault as stripe
 use Rattle.ld_plan.proofs.StripingLemmas.{weights_accepted}
 use Rattle.ld_plan.proofs.striping.of_sequence.Goals as goal

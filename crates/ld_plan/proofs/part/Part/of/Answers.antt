@@ -1,4 +1,4 @@
-use Rattle.std.proofs.Common.{◌∙◌, arith, ap, refl, subst, rules}
+use Rattle.std.proofs.Common.{◌∙◌, arith, ap, subst}
 use Rattle.ld_stripe.specs.Striping.{IsStripingOf, share_at, shares_at}
 use Rattle.ld_plan.specs.Executor.{pre_of, max_of}
 use Rattle.ld_plan.proofs.PartLemmas.{pre_within}
