@@ -1,7 +1,12 @@
 mod desk;
 mod faults;
+mod known;
+mod memory;
 mod refusals;
 mod rehearsals;
+mod report;
 mod stripes;
+mod sure_desk;
+mod table;
 mod test_files;
 mod words;

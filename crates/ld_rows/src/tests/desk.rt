@@ -1,207 +1,151 @@
 // A desk with objects in memory, at which a command line is carried out.
+//
+// A row gives the line, and before it, where the desk isn't the usual one, a setting and a stroke, as
+// `test three shelf 1 | plan t`. A setting is pairs of words:
+// - `test NAME`: the file `t` is the test of this name;
+// - `test TEXT`: the file `t` is this text, which has no spaces;
+// - `blanks N`: the file `t` is so many blanks;
+// - `shelf N`, `out N`, `err N`: the call of this number, from 1, of the shelf or of a sink fails.
+//
+// At the usual desk no call fails, and there is no file `t`. Each has a file `j`, and a file `k` that no row names.
 
+use crate::tests::known::test_named;
+use crate::tests::report::{put_calls, put_file, report_of};
+use crate::tests::table::Call;
 use ld_base::{Bytes, Text};
-use ld_outside::{Files, MemShelf, MemSink, Numbers, ShelfCallKind, SureShelf, SureSink};
-use ld_run::{command, desk_command};
+use ld_outside::{Files, MemShelf, MemSink, Numbers};
+use ld_run::command;
 use std::alloc::{AllocError, Global};
-use std::process::Abort;
 use std::test::Fail;
 
-/// What the file `j` holds before a command.
-pub const OLD: &str = "old";
+// What the file `j` holds before a command.
+const OLD: &str = "old";
 
-/// What the file `k`, which no command names, holds.
-pub const KEPT: &str = "kept";
+// What the file `k` holds.
+const KEPT: &str = "kept";
 
-/// The calls that are to fail, counted from 1, of the shelf and of each sink.
-#[derive(Clone, Copy, Debug)]
-pub struct Failing<'a> {
-    pub shelf: &'a [u64],
-    pub out: &'a [u64],
-    pub err: &'a [u64],
+/// A command line at the desk of a setting.
+pub struct AtADesk;
+
+impl Call for AtADesk {
+    fn answer(alloc: Global, given: &str) -> Result<String, Fail> {
+        let (setting, line) = given.split_once('|').unwrap_or(("", given));
+        let test = test_of(alloc, setting)?;
+        let words = words_of(alloc, line)?;
+        let mut desk = desk_of(alloc, setting, &test)?;
+        let status = command(
+            &((), alloc),
+            &words,
+            &mut desk.shelf,
+            &mut desk.out,
+            &mut desk.err,
+        );
+        told(alloc, status, &desk, &test)
+    }
 }
 
-/// No call fails.
-pub const SURE: Failing<'static> = Failing {
-    shelf: &[],
-    out: &[],
-    err: &[],
-};
-
-/// What a command line is to give.
-#[derive(Clone, Copy, Debug)]
-pub struct Row<'a> {
-    /// The words, with spaces between them.
-    pub line: &'a str,
-    /// The status.
-    pub status: u8,
-    /// The text on standard output.
-    pub out: &'a str,
-    /// The text on standard error.
-    pub err: &'a str,
-    /// The file `j`, or `None` where no file is started.
-    pub journal: Option<&'a str>,
-}
-
-/// What a command gave: its status, and the objects that it was handed.
+// The objects at a desk.
 #[derive(Drop)]
-pub struct Played {
-    pub status: u8,
-    pub shelf: MemShelf,
-    pub out: MemSink,
-    pub err: MemSink,
+struct Desk {
+    shelf: MemShelf,
+    out: MemSink,
+    err: MemSink,
 }
 
-// The words of a line.
-fn split(alloc: Global, line: &str) -> Result<Vec<String>, AllocError> {
+// The desk of a setting, with this test if there is one.
+fn desk_of(alloc: Global, setting: &str, test: &Option<String>) -> Result<Desk, AllocError> {
+    let files = files_with(alloc, test)?;
+    let shelf = MemShelf::new(alloc, files, failing(alloc, setting, "shelf")?);
+    let out = MemSink::new(alloc, failing(alloc, setting, "out")?);
+    let err = MemSink::new(alloc, failing(alloc, setting, "err")?);
+    Ok(Desk { shelf, out, err })
+}
+
+// What a command gave at a desk.
+fn told(alloc: Global, status: u8, desk: &Desk, test: &Option<String>) -> Result<String, Fail> {
+    let mut report = report_of(alloc, status, desk.out.taken(), desk.err.taken())?;
+    put_changes(&mut report, &desk.shelf, test)?;
+    Ok(report)
+}
+
+/// The words of a line. An empty word is written `_`.
+pub fn words_of(alloc: Global, line: &str) -> Result<Vec<String>, AllocError> {
     let mut words = Vec::new(alloc);
     for word in line.split_whitespace() {
+        let word = if word == "_" { "" } else { word };
         words.push(String::from_str(alloc, word)?)?;
     }
     Ok(words)
 }
 
-// The numbers of the calls that are to fail.
-fn numbers(alloc: Global, items: &[u64]) -> Result<Numbers, AllocError> {
-    Ok(Numbers::of(Vec::from_slice(alloc, items)?))
+// The word behind this one in a setting, if it is there.
+fn word_behind<'a>(setting: &'a str, key: &str) -> Option<&'a str> {
+    let mut is_behind = false;
+    for word in setting.split_whitespace() {
+        if is_behind {
+            return Some(word);
+        }
+        is_behind = word == key;
+    }
+    None
 }
 
-// A file of this name and these bytes.
-fn file(alloc: Global, name: &str, bytes: &str) -> Result<(Text, Bytes), AllocError> {
+// The number behind this word in a setting, if it is there.
+fn number_behind(setting: &str, key: &str) -> Option<u64> {
+    word_behind(setting, key)?.parse::<u64>().ok()
+}
+
+// The calls of this object that are to fail.
+fn failing(alloc: Global, setting: &str, object: &str) -> Result<Numbers, AllocError> {
+    let mut numbers = Vec::new(alloc);
+    if let Some(number) = number_behind(setting, object) {
+        numbers.push(number)?;
+    }
+    Ok(Numbers::of(numbers))
+}
+
+// The text of the file `t`, if it is there.
+fn test_of(alloc: Global, setting: &str) -> Result<Option<String>, AllocError> {
+    if let Some(count) = number_behind(setting, "blanks") {
+        return Ok(Some(blanks(alloc, count)?));
+    }
+    match word_behind(setting, "test") {
+        Some(name) => Ok(Some(String::from_str(alloc, test_named(name))?)),
+        None => Ok(None),
+    }
+}
+
+// So many blanks.
+fn blanks(alloc: Global, count: u64) -> Result<String, AllocError> {
+    let mut text = String::new(alloc);
+    for _ in 0..count {
+        text.push(' ')?;
+    }
+    Ok(text)
+}
+
+// A file of this name and this text.
+fn file(alloc: Global, name: &str, text: &str) -> Result<(Text, Bytes), AllocError> {
     let name = Text::of(Vec::from_slice(alloc, name.as_bytes())?);
-    let bytes = Bytes::of(Vec::from_slice(alloc, bytes.as_bytes())?);
+    let bytes = Bytes::of(Vec::from_slice(alloc, text.as_bytes())?);
     Ok((name, bytes))
 }
 
-// The files before a command: a test, where there is one, and two that are no tests.
-fn files(alloc: Global, test: Option<&str>) -> Result<Files, Fail> {
-    let old = file(alloc, "j", OLD)?;
-    let kept = file(alloc, "k", KEPT)?;
-    let mut files = vec![in alloc; old, kept]?;
-    if let Some(text) = test {
-        files.push(file(alloc, "t", text)?)?;
+// The files before a command, with this test if there is one.
+fn files_with(alloc: Global, test: &Option<String>) -> Result<Files, AllocError> {
+    let mut files = Vec::new(alloc);
+    files.push(file(alloc, "j", OLD)?)?;
+    files.push(file(alloc, "k", KEPT)?)?;
+    if let Some(test) = test {
+        files.push(file(alloc, "t", test)?)?;
     }
     Ok(Files::of(files))
 }
 
-/// Carries out the command of a line, on a shelf of two files.
-pub fn play<R: AllocGlobal>(rt: &R, line: &str, failing: Failing<'_>) -> Result<Played, Fail> {
-    play_test(rt, line, None, failing)
-}
-
-/// Carries out the command of a line, on a shelf that has the test `t` too, where there is one.
-pub fn play_test<R: AllocGlobal>(
-    rt: &R,
-    line: &str,
-    test: Option<&str>,
-    failing: Failing<'_>,
-) -> Result<Played, Fail> {
-    let alloc = rt.alloc();
-    let words = split(alloc, line)?;
-    let mut shelf = MemShelf::new(alloc, files(alloc, test)?, numbers(alloc, failing.shelf)?);
-    let mut out = MemSink::new(alloc, numbers(alloc, failing.out)?);
-    let mut err = MemSink::new(alloc, numbers(alloc, failing.err)?);
-    let status = command(rt, &words, &mut shelf, &mut out, &mut err);
-    Ok(Played {
-        status,
-        shelf,
-        out,
-        err,
-    })
-}
-
-/// Carries out the command of a line with objects that never fail, on an empty shelf, by the call that may wait or by
-/// the other.
-pub fn play_sure<R: AllocGlobal>(
-    rt: &R,
-    line: &str,
-    waits: bool,
-) -> Result<(u8, SureShelf, SureSink, SureSink), Fail> {
-    let alloc = rt.alloc();
-    let words = split(alloc, line)?;
-    let mut shelf = SureShelf::new(alloc, Files::of(Vec::new(alloc)));
-    let mut out = SureSink::new(alloc);
-    let mut err = SureSink::new(alloc);
-    let status = if waits {
-        command(rt, &words, &mut shelf, &mut out, &mut err)
-    } else {
-        desk_command(rt, &words, &mut shelf, &mut out, &mut err)
-    };
-    Ok((status, shelf, out, err))
-}
-
-/// Carries out the command of a row, at a desk where no call fails, and compares all that it gives.
-pub fn check<R: AllocGlobal + Abort>(rt: &R, row: &Row<'_>) -> Result<(), Fail> {
-    let line = row.line;
-    let played = play(rt, line, SURE)?;
-    assert_eq!(rt; played.status, row.status, "{line}");
-    assert!(rt; played.out.taken() == row.out.as_bytes(), "{line}");
-    assert!(rt; played.err.taken() == row.err.as_bytes(), "{line}");
-    match row.journal {
-        Some(journal) => check_written(rt, &played.shelf, line, journal),
-        None => check_untouched(rt, &played.shelf, line),
-    }
-    Ok(())
-}
-
-/// The two columns of a row, around an arrow.
-pub fn columns(row: &str) -> (&str, &str) {
-    let (left, right) = row.split_once("=>").unwrap_or((row, ""));
-    (left.trim(), right.trim())
-}
-
-/// Carries out the command of a line, which writes no file, and compares what it gives.
-pub fn check_line<'a, R: AllocGlobal + Abort>(
-    rt: &R,
-    line: &'a str,
-    status: u8,
-    out: &'a str,
-    err: &'a str,
-) -> Result<(), Fail> {
-    let row = Row {
-        line,
-        status,
-        out,
-        err,
-        journal: None,
-    };
-    check(rt, &row)
-}
-
-/// Carries out the command of each row, which is to end with this status, to say the line behind the arrow on standard
-/// error, and to do nothing else.
-pub fn check_refused<R: AllocGlobal + Abort>(rt: &R, status: u8, table: &str) -> Result<(), Fail> {
-    for row in table.lines() {
-        let (line, said) = columns(row);
-        let err = format!(in rt.alloc(); "{said}\n")?;
-        check_line(rt, line, status, "", &err)?;
-    }
-    Ok(())
-}
-
-/// Whether the shelf has a file of this name with this text.
-pub fn holds(shelf: &MemShelf, name: &str, text: &str) -> bool {
-    match shelf.file(name) {
-        Some(bytes) => bytes == text.as_bytes(),
-        None => false,
-    }
-}
-
-// Checks that the file `j` was started and written, and is this text.
-fn check_written<R: Abort>(rt: &R, shelf: &MemShelf, line: &str, journal: &str) {
-    assert!(rt; holds(shelf, "j", journal), "{line}");
-    assert!(rt; holds(shelf, "k", KEPT), "{line}");
-    assert!(rt; shelf.calls().len() >= 2, "{line}");
-    for (at, call) in shelf.calls().iter().enumerate() {
-        assert_eq!(rt; call.kind == ShelfCallKind::Start, at == 0, "{line}");
-        assert!(rt; call.name.as_slice() == "j".as_bytes(), "{line}");
-        assert!(rt; call.answered_ok, "{line}");
-    }
-}
-
-// Checks that no call was made of the shelf, and that its files are as they were.
-fn check_untouched<R: Abort>(rt: &R, shelf: &MemShelf, line: &str) {
-    assert!(rt; shelf.calls().is_empty(), "{line}");
-    assert!(rt; holds(shelf, "j", OLD), "{line}");
-    assert!(rt; holds(shelf, "k", KEPT), "{line}");
+// Appends the calls of the shelf, and the files that aren't as they were.
+fn put_changes(report: &mut String, shelf: &MemShelf, test: &Option<String>) -> Result<(), Fail> {
+    put_calls(report, shelf.calls())?;
+    put_file(report, "j", Some(OLD), shelf.file("j"))?;
+    put_file(report, "k", Some(KEPT), shelf.file("k"))?;
+    put_file(report, "t", test.as_deref(), shelf.file("t"))
 }

@@ -1,82 +1,35 @@
 // Sinks and shelves that fail.
 
-use crate::tests::desk::{Failing, KEPT, OLD, SURE, holds, play};
-use crate::tests::rehearsals::{ONE_USER, ONE_USER_LINE, ONE_USER_SUMMARY};
+use crate::tests::desk::AtADesk;
+use crate::tests::table::check;
 use std::test::Fail;
 
-/// Standard output fails: the journal is whole.
+// Where standard output fails the journal is whole. Where its start fails the old file is as it was, and where the
+// append fails a front of it stands. A journal without room comes behind a fault of writing.
+const WRITING: &str =
+    r#"out 1 | rehearse --rate 2 --unit 1s --duration 1s --pre 1 --max 1 --iteration 1s --journal j => 4, err "error write\n", start j, append j, j is one-user
+shelf 1 | rehearse --rate 2 --unit 1s --duration 1s --pre 1 --max 1 --iteration 1s --journal j => 4, err "error write\n", start j failed
+shelf 2 | rehearse --rate 2 --unit 1s --duration 1s --pre 1 --max 1 --iteration 1s --journal j => 4, err "error write\n", start j, append j failed, j is a front of one-user
+out 1 | stripe 1 0 1 => 4, err "error write\n"
+out 1 | rehearse --rate 4 --unit 1s --duration 1s --pre 1 --max 1 --iteration 100ms --journal j --entries 10 => 4, err "error write\n", start j, append j, j is full"#;
+
+// Where standard error fails the status stays, and all else is as it would be.
+const SAYING: &str = r#"err 1 | rehearse => 2
+err 1 | rehearse --rate 2 --unit 1s --duration 1s --pre 1 --max 1 --iteration 1s --journal j => 0, out "users 1 1\nscenario main planned 2 started 1 done 1 interrupted 0 dropped 1 late 0\n", start j, append j, j is one-user
+err 1 | rehearse --rate 0 --unit 1s --duration 1s --pre 1 --max 1 --iteration 1s --journal j => 5
+err 1 | rehearse --rate 4 --unit 1s --duration 1s --pre 1 --max 1 --iteration 100ms --journal j --entries 10 => 7, out "users 1 1\nscenario main planned 4 started 4 done 4 interrupted 0 dropped 0 late 0\n", start j, append j, j is full
+err 1 | plan missing => 3, read missing failed
+out 1 err 1 | stripe 1 0 1 => 4
+blanks 1048577 err 1 | plan t => 11, read t failed"#;
+
+/// The journal or standard output can't be written.
 #[test]
-fn an_output_that_fails(rt: HostRuntime) -> Result<(), Fail> {
-    let failing = Failing { out: &[1], ..SURE };
-    let played = play(&rt, ONE_USER_LINE, failing)?;
-    assert_eq!(rt; played.status, 4);
-    assert!(rt; played.out.taken().is_empty());
-    assert!(rt; played.err.taken() == "error write\n".as_bytes());
-    assert!(rt; holds(&played.shelf, "j", ONE_USER));
-    assert!(rt; holds(&played.shelf, "k", KEPT));
-    Ok(())
+fn writing(rt: HostRuntime) -> Result<(), Fail> {
+    check::<AtADesk, _>(&rt, WRITING)
 }
 
-/// The journal can't be started: the old file is as it was.
+/// Standard error can't be written.
 #[test]
-fn a_start_that_fails(rt: HostRuntime) -> Result<(), Fail> {
-    let failing = Failing {
-        shelf: &[1],
-        ..SURE
-    };
-    let played = play(&rt, ONE_USER_LINE, failing)?;
-    assert_eq!(rt; played.status, 4);
-    assert!(rt; played.out.taken().is_empty());
-    assert!(rt; played.err.taken() == "error write\n".as_bytes());
-    assert_eq!(rt; played.shelf.calls().len(), 1);
-    assert!(rt; holds(&played.shelf, "j", OLD));
-    assert!(rt; holds(&played.shelf, "k", KEPT));
-    Ok(())
-}
-
-/// The journal can't be written: a front of it stands.
-#[test]
-fn an_append_that_fails(rt: HostRuntime) -> Result<(), Fail> {
-    let failing = Failing {
-        shelf: &[2],
-        ..SURE
-    };
-    let played = play(&rt, ONE_USER_LINE, failing)?;
-    assert_eq!(rt; played.status, 4);
-    assert!(rt; played.out.taken().is_empty());
-    assert!(rt; played.err.taken() == "error write\n".as_bytes());
-    let Some(front) = played.shelf.file("j") else {
-        return Err(Fail::from("no file"));
-    };
-    assert!(rt; ONE_USER.as_bytes().starts_with(front));
-    assert!(rt; front.len() < ONE_USER.len());
-    assert!(rt; holds(&played.shelf, "k", KEPT));
-    Ok(())
-}
-
-/// Standard error fails: the status stays.
-#[test]
-fn an_error_output_that_fails(rt: HostRuntime) -> Result<(), Fail> {
-    let failing = Failing { err: &[1], ..SURE };
-    let table = [
-        ("rehearse", 2, ""),
-        (ONE_USER_LINE, 0, ONE_USER_SUMMARY),
-        (
-            "rehearse --rate 0 --unit 1s --duration 1s --pre 1 --max 1 --iteration 1s --journal j",
-            5,
-            "",
-        ),
-        (
-            "rehearse --rate 4 --unit 1s --duration 1s --pre 1 --max 1 --iteration 100ms --journal j --entries 10",
-            7,
-            "users 1 1\nscenario main planned 4 started 4 done 4 interrupted 0 dropped 0 late 0\n",
-        ),
-    ];
-    for (line, status, out) in table {
-        let played = play(&rt, line, failing)?;
-        assert_eq!(rt; played.status, status, "{line}");
-        assert!(rt; played.out.taken() == out.as_bytes(), "{line}");
-        assert!(rt; played.err.taken().is_empty(), "{line}");
-    }
-    Ok(())
+fn saying(rt: HostRuntime) -> Result<(), Fail> {
+    check::<AtADesk, _>(&rt, SAYING)
 }

@@ -1,45 +1,36 @@
-// Words that are no command. No file is started.
+// Words that are no command, and the command that tells all of them.
 
-use crate::tests::desk::check_refused;
+use crate::tests::desk::AtADesk;
+use crate::tests::table::check;
 use std::test::Fail;
 
-// The place of the first word that can't stand there, or the number of words where they end too early.
-const REFUSED: &str = "\
-=> error words 0
-rehears => error words 0
---rate 2 rehearse => error words 0
-rehearse => error words 1
-rehearse --rates 2 => error words 1
-rehearse --rate => error words 2
-rehearse --rate -2 => error words 2
-rehearse --rate two => error words 2
-rehearse --rate 1234567890 => error words 2
-rehearse --rate= => error words 1
-rehearse --rate 2 --rate 2 => error words 3
-rehearse --rate 2 --rate=2 => error words 3
-rehearse --rate 2 -- => error words 3
-rehearse --rate 2 1s => error words 3
-rehearse --rate 2 --unit 0s => error words 4
-rehearse --rate 2 --unit=0 => error words 3
-rehearse --rate 2 --unit 1x => error words 4
-rehearse --rate 2 --unit 0.1ns => error words 4
-rehearse --rate 2 --unit 31d => error words 4
-rehearse --rate 2 --duration 1s1 => error words 4
-rehearse --rate 2 --iteration 0ms => error words 4
-rehearse --rate 2 --entries 9 => error words 4
-rehearse --rate 2 --entries 1000001 => error words 4
-rehearse --rate 2 --segment 1 => error words 3
-rehearse --rate 2 --unit 1s --duration 1s --pre 1 --max 1 --iteration 1s => error words 13
-rehearse --rate 2 --unit 1s --duration 1s --pre 1 --max 1 --journal j => error words 13
-rehearse --rate 2 --unit 1s --duration 1s --pre 1 --max 1 --iteration 1s --journal j k => error words 15
-strip 1 0 1 => error words 0
---help => error words 0
-stripe => error words 1
-stripe x 0 5 => error words 1
-stripe 6 --sequence => error words 3";
+// Words that end too early, no command, values that are none, options that are unknown, given twice, of another form or
+// missing, and a word too many.
+const REFUSED: &str = r#"=> 2, err "error words 0\n"
+rehears => 2, err "error words 0\n"
+rehearse => 2, err "error words 1\n"
+stripe x 0 5 => 2, err "error words 1\n"
+rehearse --rates 2 => 2, err "error words 1\n"
+rehearse --rate => 2, err "error words 2\n"
+rehearse --rate two => 2, err "error words 2\n"
+rehearse --rate 2 --unit=0 => 2, err "error words 3\n"
+rehearse --rate 2 --rate=2 => 2, err "error words 3\n"
+rehearse --rate 2 --segment 1 => 2, err "error words 3\n"
+rehearse --rate 2 --unit 1s --duration 1s --pre 1 --max 1 --iteration 1s => 2, err "error words 13\n"
+rehearse --rate 2 --unit 1s --duration 1s --pre 1 --max 1 --iteration 1s --journal j k => 2, err "error words 15\n""#;
 
-/// Words that are refused.
+// The lines of all commands that there are.
+const HELP: &str =
+    r#"help => 0, out "load stripe WEIGHTS POSITION N\nload stripe N [--segment S] [--sequence S]\nload plan TEST [--segment S] [--sequence S] [--entries N] [--list]\nload rehearse TEST --iteration D --journal NAME [--segment S] [--sequence S] [--entries N]\nload rehearse --rate N --unit D --duration D --pre N --max N --iteration D --journal NAME [--entries N]\nload help\n""#;
+
+/// Words that are refused. No file is started.
 #[test]
-fn words_that_are_refused(rt: HostRuntime) -> Result<(), Fail> {
-    check_refused(&rt, 2, REFUSED)
+fn refused(rt: HostRuntime) -> Result<(), Fail> {
+    check::<AtADesk, _>(&rt, REFUSED)
+}
+
+/// The lines of all commands.
+#[test]
+fn help(rt: HostRuntime) -> Result<(), Fail> {
+    check::<AtADesk, _>(&rt, HELP)
 }

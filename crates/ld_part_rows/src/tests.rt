@@ -1,0 +1,14 @@
+mod arrivals;
+mod documents;
+mod numbers;
+mod options;
+mod plans;
+mod refusals;
+mod scripts;
+mod segments;
+mod shelves;
+mod sinks;
+mod slow_files;
+mod stripes;
+mod table;
+mod words;

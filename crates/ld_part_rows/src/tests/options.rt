@@ -1,0 +1,323 @@
+// Options: what documents ask for, and how they are refused.
+
+use crate::tests::refusals::refusal;
+use crate::tests::scripts::scripts_text;
+use crate::tests::table::{Call, add, add_behind_comma, check, first_word, text_of};
+use ld_base::Text;
+use ld_options::{Executor, Options, Scenario, Scenarios};
+use std::alloc::Global;
+use std::test::Fail;
+
+// The members of a good scenario. `env` isn't there, and may not be.
+const MEMBERS: &str = r#"executor "constant-arrival-rate"
+startTime "1m30s"
+gracefulStop 1500
+exec "second"
+rate 20
+timeUnit "2s"
+duration "1.5h"
+preAllocatedVUs 4
+maxVUs 5
+env"#;
+
+// Members of a good scenario that have other values or aren't there, with what the document asks for: each member,
+// those alone that are needed, and the ends of the ranges.
+const READ: &str =
+    r#"=> main begin 90000000000 grace 1500000000 script 1 of 2 rate 20 unit 2000000000 duration 5400000000000 users 4 5
+startTime, gracefulStop, exec, timeUnit, maxVUs => main begin 0 grace 30000000000 script 0 of 2 rate 20 unit 1000000000 duration 5400000000000 users 4 4
+startTime "30d", gracefulStop 0, exec "default", rate 1000000, timeUnit "1d", duration 2592000000, preAllocatedVUs 1000, maxVUs 1000 => main begin 2592000000000000 grace 0 script 0 of 2 rate 1000000 unit 86400000000000 duration 2592000000000000 users 1000 1000
+startTime "0s", gracefulStop 2592000000, rate 1, timeUnit "1ns", duration "1ns", preAllocatedVUs 0, maxVUs 1 => main begin 0 grace 2592000000000000 script 1 of 2 rate 1 unit 1 duration 1 users 0 1
+startTime "7", gracefulStop "1h30m", timeUnit 86400000, duration 1500, maxVUs 4 => main begin 7000000 grace 5400000000000 script 1 of 2 rate 20 unit 86400000000000 duration 1500000000 users 4 4"#;
+
+// Documents whose root, options or scripts are refused. `@` stands for a good scenario.
+const DOCUMENTS: &str = r#"=> NotJson
+{ => NotJson
+{"limits":1.0} => NotJson
+{"options":1e3} => NotJson
+[-1] => NotJson
+{"options":{"a!":-0}} => NotJson
+{"scripts":{"a!":18446744073709551616}} => NotJson
+[] => WrongKind
+null => WrongKind
+{} => Missing /options
+{"a~/b":0,"options":[]} => Unknown /a~0~1b
+{"options":{"scenarios":{"main":@}},"scripts":{"second":[]},"vus":1} => Unknown /vus
+{"scripts":{"second":[]}} => Missing /options
+{"options":null,"scripts":{}} => WrongKind /options
+{"options":[],"scripts":[]} => WrongKind /options
+{"options":[]} => WrongKind /options
+{"options":{"vus":1}} => Missing /scripts
+{"options":{"scenarios":{"main":@}}} => Missing /scripts
+{"options":{},"scripts":[]} => WrongKind /scripts
+{"options":{"scenarios":{"main":@}},"scripts":0} => WrongKind /scripts
+{"options":{},"scripts":{}} => Missing /options/scenarios
+{"options":{"thresholds":{},"scenarios":{"main":@}},"scripts":{"second":[]}} => Unknown /options/thresholds
+{"options":{"/~":{}},"scripts":{"a!":1}} => Unknown /options/~1~0
+{"options":{"scenarios":[@]},"scripts":{"second":[]}} => WrongKind /options/scenarios
+{"options":{"scenarios":"main"},"scripts":{"a!":1}} => WrongKind /options/scenarios
+{"options":{"scenarios":{}},"scripts":{"a":1}} => Range /options/scenarios
+{"options":{"scenarios":{"main":@,"other":@}},"scripts":{"second":[]}} => Range /options/scenarios
+{"options":{"scenarios":{"a!":1,"b!":2}},"scripts":{"a!":1}} => Range /options/scenarios
+{"options":{"scenarios":{"a!":1}},"scripts":{"b":[],"a~/":1}} => BadName /scripts/a~0~1
+{"options":{"scenarios":{"a!":1}},"scripts":{"a":{}}} => WrongKind /scripts/a
+{"options":{"scenarios":{"main":@}},"scripts":{"second":[{"sleep":"1s"}]}} => Range /scripts/second
+{"options":{"scenarios":{"main":{}}},"scripts":{"b":[1],"a":0}} => WrongKind /scripts/a
+{"options":{"scenarios":{"a/b~c":@}},"scripts":{"second":[]}} => BadName /options/scenarios/a~1b~0c
+{"options":{"scenarios":{"":[]}},"scripts":{}} => BadName /options/scenarios/
+{"options":{"scenarios":{"a b":{"vus":1}}},"scripts":{}} => BadName /options/scenarios/a b
+{"options":{"scenarios":{"a":[@]}},"scripts":{"second":[]}} => WrongKind /options/scenarios/a
+{"options":{"scenarios":{"a":{}}},"scripts":{}} => Missing /options/scenarios/a/executor
+{"options":{"scenarios":{"a":@}},"scripts":{}} => ScriptUnknown /options/scenarios/a/exec"#;
+
+// Members of a good scenario that have other values or aren't there, with the cause: one change, and then two of which
+// the second is looked at first.
+const CHANGES: &str = r#"env {} => Unknown /options/scenarios/main/env
+executor => Missing /options/scenarios/main/executor
+executor null => WrongKind /options/scenarios/main/executor
+executor "fast" => BadExecutor /options/scenarios/main/executor
+executor "" => BadExecutor /options/scenarios/main/executor
+executor "constant-arrival-rates" => BadExecutor /options/scenarios/main/executor
+startTime true => WrongKind /options/scenarios/main/startTime
+startTime "" => Empty /options/scenarios/main/startTime
+startTime "abc" => BadDigit /options/scenarios/main/startTime
+startTime "-1s" => BadDigit /options/scenarios/main/startTime
+startTime "1x" => BadUnit /options/scenarios/main/startTime
+startTime "0.1ns" => NotWhole /options/scenarios/main/startTime
+startTime "31d" => TooLarge /options/scenarios/main/startTime
+startTime 2592000001 => TooLarge /options/scenarios/main/startTime
+gracefulStop [] => WrongKind /options/scenarios/main/gracefulStop
+gracefulStop "" => Empty /options/scenarios/main/gracefulStop
+gracefulStop "1 s" => BadUnit /options/scenarios/main/gracefulStop
+gracefulStop "30d1ns" => TooLarge /options/scenarios/main/gracefulStop
+exec 1 => WrongKind /options/scenarios/main/exec
+exec null => WrongKind /options/scenarios/main/exec
+exec "third" => ScriptUnknown /options/scenarios/main/exec
+exec "Second" => ScriptUnknown /options/scenarios/main/exec
+exec "" => ScriptUnknown /options/scenarios/main/exec
+rate => Missing /options/scenarios/main/rate
+rate "20" => WrongKind /options/scenarios/main/rate
+rate 0 => Range /options/scenarios/main/rate
+rate 1000001 => Range /options/scenarios/main/rate
+rate 18446744073709551615 => Range /options/scenarios/main/rate
+timeUnit {} => WrongKind /options/scenarios/main/timeUnit
+timeUnit "0s" => Range /options/scenarios/main/timeUnit
+timeUnit 0 => Range /options/scenarios/main/timeUnit
+timeUnit "25h" => Range /options/scenarios/main/timeUnit
+timeUnit "1d1ns" => Range /options/scenarios/main/timeUnit
+timeUnit 86400001 => Range /options/scenarios/main/timeUnit
+timeUnit "31d" => TooLarge /options/scenarios/main/timeUnit
+duration => Missing /options/scenarios/main/duration
+duration true => WrongKind /options/scenarios/main/duration
+duration null => WrongKind /options/scenarios/main/duration
+duration "0s" => Range /options/scenarios/main/duration
+duration 0 => Range /options/scenarios/main/duration
+duration "31d" => TooLarge /options/scenarios/main/duration
+duration 18446744073709551615 => TooLarge /options/scenarios/main/duration
+duration "" => Empty /options/scenarios/main/duration
+duration "1x" => BadUnit /options/scenarios/main/duration
+duration "0.1ns" => NotWhole /options/scenarios/main/duration
+duration "abc" => BadDigit /options/scenarios/main/duration
+preAllocatedVUs => Missing /options/scenarios/main/preAllocatedVUs
+preAllocatedVUs "4" => WrongKind /options/scenarios/main/preAllocatedVUs
+preAllocatedVUs 1001 => Range /options/scenarios/main/preAllocatedVUs
+maxVUs null => WrongKind /options/scenarios/main/maxVUs
+maxVUs 0 => MaxBelowPre /options/scenarios/main/maxVUs
+maxVUs 3 => MaxBelowPre /options/scenarios/main/maxVUs
+maxVUs 1001 => Range /options/scenarios/main/maxVUs
+env 1, executor => Missing /options/scenarios/main/executor
+env 1, executor 1 => WrongKind /options/scenarios/main/executor
+env 1, executor "fast" => BadExecutor /options/scenarios/main/executor
+rate, env 1 => Unknown /options/scenarios/main/env
+startTime true, env 1 => Unknown /options/scenarios/main/env
+gracefulStop true, startTime "31d" => TooLarge /options/scenarios/main/startTime
+exec 1, gracefulStop "1x" => BadUnit /options/scenarios/main/gracefulStop
+exec 1, startTime "" => Empty /options/scenarios/main/startTime
+rate, exec "third" => ScriptUnknown /options/scenarios/main/exec
+rate true, exec 1 => WrongKind /options/scenarios/main/exec
+timeUnit true, rate 0 => Range /options/scenarios/main/rate
+duration, rate 1000001 => Range /options/scenarios/main/rate
+duration, timeUnit "25h" => Range /options/scenarios/main/timeUnit
+preAllocatedVUs, duration 0 => Range /options/scenarios/main/duration
+preAllocatedVUs, rate => Missing /options/scenarios/main/rate
+maxVUs true, duration => Missing /options/scenarios/main/duration
+maxVUs true, preAllocatedVUs 1001 => Range /options/scenarios/main/preAllocatedVUs
+maxVUs 1000, preAllocatedVUs 1001 => Range /options/scenarios/main/preAllocatedVUs
+maxVUs 0, preAllocatedVUs => Missing /options/scenarios/main/preAllocatedVUs
+preAllocatedVUs 3, maxVUs 2 => MaxBelowPre /options/scenarios/main/maxVUs
+preAllocatedVUs 0, maxVUs => Range /options/scenarios/main/maxVUs
+preAllocatedVUs 0, maxVUs 0 => Range /options/scenarios/main/maxVUs"#;
+
+// The value at `scripts`, as the number of scripts and the value of each, and that at `scenarios`. A hundred scripts
+// are read, and one more isn't, whatever they and the options are.
+const MANY: &str =
+    r#"100*[] {"main":{"executor":"constant-arrival-rate","rate":1,"duration":"1s","preAllocatedVUs":1,"exec":"s99"}} => main begin 0 grace 30000000000 script 99 of 100 rate 1 unit 1000000000 duration 1000000000 users 1 1
+101*[] {"main":{"executor":"constant-arrival-rate","rate":1,"duration":"1s","preAllocatedVUs":1,"exec":"s99"}} => Range /scripts
+101*0 {"main":{"executor":"constant-arrival-rate","rate":1,"duration":"1s","preAllocatedVUs":1,"exec":"s99"}} => Range /scripts
+101*[] {} => Range /scripts"#;
+
+// The value that a member of this name has among changes, if it is changed.
+fn value_changed<'a>(changes: &'a str, name: &str) -> Option<&'a str> {
+    for change in changes.split(", ") {
+        let (member, value) = first_word(change);
+        if member == name {
+            return Some(value);
+        }
+    }
+    None
+}
+
+// The text of a good scenario, but for the members that have other values. A member without a value isn't there.
+fn scenario_text(alloc: Global, changes: &str) -> Result<String, Fail> {
+    let mut members = String::new(alloc);
+    for member in MEMBERS.lines() {
+        let (name, value) = first_word(member);
+        let value = value_changed(changes, name).unwrap_or(value);
+        if !value.is_empty() {
+            add_behind_comma(&mut members, format!(in alloc; "\"{name}\":{value}")?)?;
+        }
+    }
+    Ok(format!(in alloc; "{{{members}}}")?)
+}
+
+// The text with a scenario in place of each `@`.
+fn filled(alloc: Global, text: &str, scenario: &str) -> Result<String, Fail> {
+    let mut filled = String::new(alloc);
+    for (at, part) in text.split('@').enumerate() {
+        if at > 0 {
+            filled.push_str(scenario)?;
+        }
+        filled.push_str(part)?;
+    }
+    Ok(filled)
+}
+
+// The numbers of an executor.
+fn executor_text(alloc: Global, executor: Executor) -> Result<String, Fail> {
+    let Executor::ConstantArrivals {
+        rate,
+        unit,
+        duration,
+        pre,
+        max,
+    } = executor;
+    let mut line = format!(in alloc; "rate {rate} unit {unit} duration {duration}")?;
+    add(&mut line, format!(in alloc; "users {pre} {max}")?)?;
+    Ok(line)
+}
+
+// A scenario, and how many scripts there are.
+fn scenario_told(alloc: Global, scenario: &Scenario, scripts: u16) -> Result<String, Fail> {
+    let name = text_of(scenario.name.as_slice());
+    let (begin, grace, script) = (scenario.begin, scenario.grace, scenario.script);
+    let mut line = format!(in alloc; "{name} begin {begin} grace {grace}")?;
+    add(
+        &mut line,
+        format!(in alloc; "script {script} of {scripts}")?,
+    )?;
+    add(&mut line, executor_text(alloc, scenario.executor)?)?;
+    Ok(line)
+}
+
+// What a document asks for, or why it is refused.
+fn told(alloc: Global, document: &str) -> Result<String, Fail> {
+    match Options::read(alloc, document.as_bytes()) {
+        Ok(options) => options_told(alloc, &options.copy(alloc)?),
+        Err(fault) => refusal(alloc, &fault),
+    }
+}
+
+// What options ask for.
+fn options_told(alloc: Global, options: &Options) -> Result<String, Fail> {
+    let mut line = String::new(alloc);
+    for scenario in options.scenarios.as_slice() {
+        let scripts = options.scripts.count();
+        add(&mut line, scenario_told(alloc, scenario, scripts)?)?;
+    }
+    Ok(line)
+}
+
+struct Changed;
+
+impl Call for Changed {
+    fn answer(alloc: Global, given: &str) -> Result<String, Fail> {
+        let scenario = scenario_text(alloc, given)?;
+        let document =
+            r#"{"options":{"scenarios":{"main":@}},"scripts":{"default":[],"second":[]}}"#;
+        told(alloc, filled(alloc, document, scenario.as_str())?.as_str())
+    }
+}
+
+struct Document;
+
+impl Call for Document {
+    fn answer(alloc: Global, given: &str) -> Result<String, Fail> {
+        let scenario = scenario_text(alloc, "")?;
+        told(alloc, filled(alloc, given, scenario.as_str())?.as_str())
+    }
+}
+
+struct ManyScripts;
+
+impl Call for ManyScripts {
+    fn answer(alloc: Global, given: &str) -> Result<String, Fail> {
+        let (scripts, scenarios) = first_word(given);
+        let scripts = scripts_text(alloc, scripts)?;
+        let options = r#"{"options":{"scenarios":"#;
+        let text = format!(in alloc; "{options}{scenarios}}},\"scripts\":{scripts}}}")?;
+        told(alloc, text.as_str())
+    }
+}
+
+/// Good scenarios.
+#[test]
+fn scenarios(rt: HostRuntime) -> Result<(), Fail> {
+    check::<Changed, _>(&rt, READ)
+}
+
+/// Scenarios that are refused.
+#[test]
+fn refused_scenarios(rt: HostRuntime) -> Result<(), Fail> {
+    check::<Changed, _>(&rt, CHANGES)
+}
+
+/// Documents that are refused.
+#[test]
+fn refused_documents(rt: HostRuntime) -> Result<(), Fail> {
+    check::<Document, _>(&rt, DOCUMENTS)
+}
+
+/// Documents of many scripts.
+#[test]
+fn many_scripts(rt: HostRuntime) -> Result<(), Fail> {
+    check::<ManyScripts, _>(&rt, MANY)
+}
+
+/// A list of scenarios that is made by hand.
+#[test]
+fn made_scenarios(rt: HostRuntime) -> Result<(), Fail> {
+    let alloc = rt.alloc();
+    let mut items = Vec::new(alloc);
+    items.push(Scenario {
+        name: Text::of(Vec::from_slice(alloc, b"main")?),
+        begin: 1,
+        grace: 2,
+        script: 3,
+        executor: Executor::ConstantArrivals {
+            rate: 4,
+            unit: 5,
+            duration: 6,
+            pre: 7,
+            max: 8,
+        },
+    })?;
+    let list = Scenarios::of(items);
+    let mut line = String::new(alloc);
+    for scenario in list.as_slice() {
+        add(&mut line, scenario_told(alloc, scenario, 4)?)?;
+    }
+    assert_eq!(rt;
+        line.as_str(),
+        "main begin 1 grace 2 script 3 of 4 rate 4 unit 5 duration 6 users 7 8"
+    );
+    Ok(())
+}

@@ -1,0 +1,14 @@
+mod cores;
+mod desk;
+mod entries;
+mod journals;
+mod lines;
+mod lists;
+mod plans;
+mod rehearsals;
+mod replies;
+mod scenarios;
+mod summaries;
+mod table;
+mod threads;
+mod users;

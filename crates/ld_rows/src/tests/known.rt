@@ -1,0 +1,168 @@
+// Texts that rows name: tests, and journals.
+
+use std::test::Fail;
+
+// Tests, each behind its name: three arrivals in a second, and four for two users.
+const TESTS: &str =
+    r#"three {"options":{"scenarios":{"main":{"executor":"constant-arrival-rate","rate":3,"duration":"1s","preAllocatedVUs":1}}},"scripts":{"default":[]}}
+four {"options":{"scenarios":{"main":{"executor":"constant-arrival-rate","rate":4,"duration":"1s","preAllocatedVUs":2}}},"scripts":{"default":[]}}"#;
+
+// Journals, each behind a line with its name:
+// - `one-user`: two arrivals with one user; the second is dropped, since the first is under way;
+// - `two-users`: two arrivals with two users at most; the second is made for the second arrival;
+// - `interrupted`: an iteration that its scenario's hard end interrupts, 30 seconds behind the end;
+// - `full`: four arrivals with room for ten entries, that is, for all but the close;
+// - `apart`: two arrivals that are 1,500 milliseconds apart;
+// - `minute`: two arrivals in a minute, with iterations of 1,500 milliseconds;
+// - `first-half` and `second-half`: the halves of the test `four`, with iterations of 100 milliseconds.
+const JOURNALS: &str = r#"# one-user
+ldjournal 1
+test 188
+{"options":{"scenarios":{"main":{"executor":"constant-arrival-rate","rate":2,"timeUnit":"1000000000ns","duration":"1000000000ns","preAllocatedVUs":1,"maxVUs":1}}},"scripts":{"default":[]}}
+segment 0:1
+sequence 0,1
+entries 1000000
+1 0 0 take 0 1 0
+2 0 0 start 0 1 0 31000000000
+3 0 500000000 drop 0 1
+4 0 1000000000 return 0 1 0 done 0
+5 0 1000000000 release 0 1
+6 0 1000000000 close 0
+end 6
+# two-users
+ldjournal 1
+test 188
+{"options":{"scenarios":{"main":{"executor":"constant-arrival-rate","rate":2,"timeUnit":"1000000000ns","duration":"1000000000ns","preAllocatedVUs":1,"maxVUs":2}}},"scripts":{"default":[]}}
+segment 0:1
+sequence 0,1
+entries 1000000
+1 0 0 take 0 1 0
+2 0 0 start 0 1 0 31000000000
+3 0 500000000 grow 0 2 1
+4 0 500000000 start 0 2 1 31000000000
+5 0 1000000000 return 0 1 0 done 0
+6 0 1000000000 release 0 1
+7 0 1500000000 return 0 2 1 done 0
+8 0 1500000000 release 0 2
+9 0 1500000000 close 0
+end 9
+# interrupted
+ldjournal 1
+test 188
+{"options":{"scenarios":{"main":{"executor":"constant-arrival-rate","rate":1,"timeUnit":"1000000000ns","duration":"1000000000ns","preAllocatedVUs":1,"maxVUs":1}}},"scripts":{"default":[]}}
+segment 0:1
+sequence 0,1
+entries 1000000
+1 0 0 take 0 1 0
+2 0 0 start 0 1 0 31000000000
+3 0 31000000000 return 0 1 0 interrupted 0
+4 0 31000000000 release 0 1
+5 0 31000000000 close 0
+end 5
+# full
+ldjournal 1
+test 188
+{"options":{"scenarios":{"main":{"executor":"constant-arrival-rate","rate":4,"timeUnit":"1000000000ns","duration":"1000000000ns","preAllocatedVUs":1,"maxVUs":1}}},"scripts":{"default":[]}}
+segment 0:1
+sequence 0,1
+entries 10
+1 0 0 take 0 1 0
+2 0 0 start 0 1 0 31000000000
+3 0 100000000 return 0 1 0 done 0
+4 0 250000000 start 0 1 1 31000000000
+5 0 350000000 return 0 1 1 done 0
+6 0 500000000 start 0 1 2 31000000000
+7 0 600000000 return 0 1 2 done 0
+8 0 750000000 start 0 1 3 31000000000
+9 0 850000000 return 0 1 3 done 0
+10 0 1000000000 release 0 1
+end 10
+# apart
+ldjournal 1
+test 188
+{"options":{"scenarios":{"main":{"executor":"constant-arrival-rate","rate":1,"timeUnit":"1500000000ns","duration":"3000000000ns","preAllocatedVUs":1,"maxVUs":1}}},"scripts":{"default":[]}}
+segment 0:1
+sequence 0,1
+entries 1000000
+1 0 0 take 0 1 0
+2 0 0 start 0 1 0 33000000000
+3 0 500000000 return 0 1 0 done 0
+4 0 1500000000 start 0 1 1 33000000000
+5 0 2000000000 return 0 1 1 done 0
+6 0 3000000000 release 0 1
+7 0 3000000000 close 0
+end 7
+# minute
+ldjournal 1
+test 190
+{"options":{"scenarios":{"main":{"executor":"constant-arrival-rate","rate":2,"timeUnit":"60000000000ns","duration":"60000000000ns","preAllocatedVUs":1,"maxVUs":1}}},"scripts":{"default":[]}}
+segment 0:1
+sequence 0,1
+entries 1000000
+1 0 0 take 0 1 0
+2 0 0 start 0 1 0 90000000000
+3 0 1500000000 return 0 1 0 done 0
+4 0 30000000000 start 0 1 1 90000000000
+5 0 31500000000 return 0 1 1 done 0
+6 0 60000000000 release 0 1
+7 0 60000000000 close 0
+end 7
+# first-half
+ldjournal 1
+test 141
+{"options":{"scenarios":{"main":{"executor":"constant-arrival-rate","rate":4,"duration":"1s","preAllocatedVUs":2}}},"scripts":{"default":[]}}
+segment 0:1/2
+sequence 0,1/2,1
+entries 1000000
+1 0 0 take 0 1 0
+2 0 0 start 0 1 0 31000000000
+3 0 100000000 return 0 1 0 done 0
+4 0 500000000 start 0 1 2 31000000000
+5 0 600000000 return 0 1 2 done 0
+6 0 1000000000 release 0 1
+7 0 1000000000 close 0
+end 7
+# second-half
+ldjournal 1
+test 141
+{"options":{"scenarios":{"main":{"executor":"constant-arrival-rate","rate":4,"duration":"1s","preAllocatedVUs":2}}},"scripts":{"default":[]}}
+segment 1/2:1
+sequence 0,1/2,1
+entries 20
+1 0 0 take 0 1 0
+2 0 250000000 start 0 1 1 31000000000
+3 0 350000000 return 0 1 1 done 0
+4 0 750000000 start 0 1 3 31000000000
+5 0 850000000 return 0 1 3 done 0
+6 0 1000000000 release 0 1
+7 0 1000000000 close 0
+end 7
+"#;
+
+/// The test of this name, or else the text itself.
+pub fn test_named(name: &str) -> &str {
+    for row in TESTS.lines() {
+        let (known, test) = row.split_once(' ').unwrap_or((row, ""));
+        if known == name {
+            return test;
+        }
+    }
+    name
+}
+
+/// Appends the name of the journal that a text is, or of the first of which it is a front; or else the text itself.
+pub fn put_journal(into: &mut String, text: &str) -> Result<(), Fail> {
+    for section in JOURNALS.split("# ") {
+        let (name, journal) = section.split_once('\n').unwrap_or((section, ""));
+        if text == journal {
+            into.push_str(name)?;
+            return Ok(());
+        }
+        if journal.starts_with(text) {
+            write!(into, "a front of {name}")?;
+            return Ok(());
+        }
+    }
+    write!(into, "{text:?}")?;
+    Ok(())
+}
