@@ -17,7 +17,7 @@ use Rattle.ld_plan.specs.Executor.{timetable_of, pre_of, max_of}
 use Rattle.ld_plan.specs.IsPlanOf.{part_of, sample_room}
 use Rattle.ld_plan.specs.PlanView.{PlanView}
 use Rattle.ld_plan.specs.PlanView as plans
-use Rattle.ld_plan.specs.Requirement.{most_owned_users, owned_users}
+use Rattle.ld_machine.specs.Requirement.{most_owned_users, owned_users}
 use Rattle.ld_plan.specs.Row.{row_of}
 use Rattle.ld_plan.specs.declared.row.Row.{Row}
 use Rattle.ld_plan.proofs.OneScenarioLemmas.{HasOne}

@@ -7,6 +7,7 @@ use Rattle.ld_base.specs.declared.act.Act.TheVariants.{Start, Return}
 use Rattle.ld_base.specs.declared.entry.Entry.{Entry}
 use Rattle.ld_machine.specs.Plan.{Plan}
 use Rattle.ld_machine.specs.State.{busy_count}
+use Rattle.ld_machine.specs.Room.{busy_room}
 use Rattle.ld_machine.specs.Effect.{state_after}
 
 -- an iteration under way: who started it, the reading at which it began, and what was begun
@@ -45,3 +46,8 @@ IsNumbered history = map (λ (entry : Entry). entry.turn) history ≡ range_with
 -- the history keeps to the plan's limit, the Returns of all who are busy counted in
 abbrev pub KeepsRoom : Plan → List Entry → Type 0
 KeepsRoom plan history = length history + busy_count (state_after plan history) ≤ plan.entry_limit
+
+-- the samples of the history keep to the limit, room for all those of the iterations under way counted in
+abbrev pub KeepsSamples : Plan → List Entry → Type 0
+KeepsSamples plan history =
+    (state_after plan history).samples + busy_room plan (state_after plan history) ≤ plan.entry_limit

@@ -1,5 +1,5 @@
 -- Wishes: the acts that a scenario's wish stands for, and the wishes that tell its first acts.
-use Rattle.std.specs.Prelude.{◌≡◌, ℕ, Bool, true, false, ◌+◌, nat_lt, List, [], ◌∷◌, ◌++◌, Contains, map, is_some, if◌then◌else◌}
+use Rattle.std.specs.Prelude.{◌≡◌, ℕ, Bool, true, false, ◌+◌, nat_lt, List, [], ◌∷◌, ◌++◌, Option, None, Some, Contains, map, is_some, if◌then◌else◌}
 use Rattle.ld_base.specs.declared.wish.Wish.{Wish}
 use Rattle.ld_base.specs.declared.wish.Wish.TheVariants.{Nothing, Release, Take, Start, More, Drop, Late, Close}
 use Rattle.ld_machine.specs.Plan.{Executor, ArrivalRate, Part, hard_moment}
@@ -49,11 +49,11 @@ acts_wished n users part (Drop item due) = drop_wished (has_arrivals part.execut
 acts_wished n users part (Late item due) = AnswerArrival n due item (hard_moment part) CountLate ∷ []
 acts_wished n users part Close = CloseScenario n ∷ []
 
--- a wish that names a held user, with this user in its place
-abbrev pub with_preferred : ℕ → Wish → Wish
-with_preferred prefer (Release user) = Release prefer
-with_preferred prefer (Start user item until due) = Start prefer item until due
-with_preferred prefer wish = wish
+-- the held user that a wish names, if it names one
+abbrev pub named_user : Wish → Option ℕ
+named_user (Release user) = Some user
+named_user (Start user _ _ _) = Some user
+named_user _ = None
 
 -- ---- which wish is right
 
@@ -68,13 +68,13 @@ StandsForFirst n users s t wish =
     (move : Move) → Contains (acts_wished n users s.part wish) move → IsFirstOf (later_moves n users s t) move
 
 -- the wish tells the scenario's first acts at the reading t: each act that it stands for is one of them;
--- it stands for some act, unless it is for nothing, and then there is no act; and where the preferred
--- user may be chosen in place of the one that it names, it is the one
+-- it stands for some act, unless it is for nothing, and then there is no act; and where some wish that
+-- names the preferred user stands for a first act, this one names it
 pub record TellsFirst (n : ℕ) (users : Users) (s : Scenario) (t prefer : ℕ) (wish : Wish) : Type 0 where
   pub first : StandsForFirst n users s t wish
   pub something : acts_wished n users s.part wish ≡ [] → wish ≡ Nothing
   pub nothing : wish ≡ Nothing → later_moves n users s t ≡ []
-  pub preferred : StandsForFirst n users s t (with_preferred prefer wish) → wish ≡ with_preferred prefer wish
+  pub preferred : (other : Wish) → named_user other ≡ Some prefer → StandsForFirst n users s t other → named_user wish ≡ Some prefer
 
 -- the wish tells the first acts of the scenario whatever its number is and whichever users the pool
 -- has, where `free` says whether one is free

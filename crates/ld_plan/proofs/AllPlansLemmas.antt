@@ -24,7 +24,7 @@ use Rattle.ld_plan.specs.Executor.{timetable_of, pre_of, max_of}
 use Rattle.ld_plan.specs.IsPlanOf.{IsItemStriping, IsPartOf, IsPlanOf, IsSequenceStriping, IsSound, part_of, sample_room}
 use Rattle.ld_plan.specs.PartView.{PartView}
 use Rattle.ld_plan.specs.PlanView.{PlanView, arrival_of}
-use Rattle.ld_plan.specs.Requirement.{most_owned_users, owned_users}
+use Rattle.ld_machine.specs.Requirement.{most_owned_users, owned_users}
 use Rattle.ld_plan.specs.Whole.{AreAllPlans, arrivals_at, most_users_at, users_at}
 use Rattle.ld_plan.proofs.PartLemmas.{some_users}
 use Rattle.ld_plan.proofs.StripingLemmas.{IsSpread, one_rescaled, one_sequence_striping, owner_inside, rescaled_spread, sequence_spread, sequence_striping, striping_of}

@@ -14,7 +14,7 @@ use Rattle.ld_plan.specs.IsPlanOf.{IsPartOf, part_of, sample_room}
 use Rattle.ld_plan.specs.Plan.{IsMade}
 use Rattle.ld_plan.specs.PartView.{PartView, parts_of, wholes_of}
 use Rattle.ld_plan.specs.PlanView.{PlanView}
-use Rattle.ld_plan.specs.Requirement.{IsRequirement}
+use Rattle.ld_machine.specs.Requirement.{IsRequirement}
 use Rattle.ld_plan.proofs.PartLemmas.{few_users, pre_within}
 use Rattle.ld_plan.proofs.StripingLemmas.{share_rises}
 use Rattle.ld_plan.proofs.TimedLemmas.{begins_before_end, part_timed}

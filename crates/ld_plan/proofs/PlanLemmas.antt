@@ -7,7 +7,7 @@ use Rattle.ld_options.specs.declared.options.Options.{Options}
 use Rattle.ld_plan.specs.IsPlanOf.{IsPlanOf, IsSound}
 use Rattle.ld_plan.specs.PartView.{parts_of, wholes_of}
 use Rattle.ld_plan.specs.PlanView.{PlanView}
-use Rattle.ld_plan.specs.Requirement.{IsRequirement}
+use Rattle.ld_machine.specs.Requirement.{IsRequirement}
 use Rattle.ld_plan.proofs.PartLemmas.{one_parts, one_place}
 use Rattle.ld_plan.proofs.RequirementLemmas.{one_greatest}
 

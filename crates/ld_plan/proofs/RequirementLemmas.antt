@@ -3,7 +3,7 @@ use Rattle.std.proofs.Common.{◌≡◌, ◌<◌, ◌≤◌, ◌+◌, ◌-◌, �
 use Rattle.std.specs.Prelude.{◌&&◌}
 use Rattle.std.proofs.lemmas.Bool.{le-leb, lt-ltb}
 use Rattle.ld_machine.specs.Plan.{Arrival, Executor, ArrivalRate, Part, hard_moment}
-use Rattle.ld_plan.specs.Requirement.{IsGreatest, IsRequirement, executor_need, executor_extra, extra, is_before, need}
+use Rattle.ld_machine.specs.Requirement.{IsGreatest, IsRequirement, executor_need, executor_extra, extra, is_before, need}
 
 -- while it is on the part plans these users
 need_of : (part : Part) (pre most : ℕ) (arrivals : List Arrival) → part.executor ≡ ArrivalRate pre most arrivals → (t : ℕ) →

@@ -19,7 +19,7 @@ use Rattle.ld_options.specs.declared.scenario.Scenario.{Scenario}
 use Rattle.ld_plan.specs.Executor.{timetable_of, pre_of, max_of}
 use Rattle.ld_plan.specs.PartView.{PartView, parts_of, wholes_of}
 use Rattle.ld_plan.specs.PlanView.{PlanView, Whole, owned_arrivals}
-use Rattle.ld_plan.specs.Requirement.{IsRequirement}
+use Rattle.ld_machine.specs.Requirement.{IsRequirement}
 
 -- the positions of a sequence own what the striping of its weights gives them
 pub record IsSequenceStriping (sequence : List Frac) (s : Striping) : Type 0 where

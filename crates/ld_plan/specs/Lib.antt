@@ -1,5 +1,4 @@
 pub mod Executor
-pub mod Requirement
 pub mod Row
 pub mod PlanView
 pub mod PartView

@@ -1,7 +1,7 @@
 -- The numbers of one scenario's part.
 use Rattle.std.specs.Prelude.{length}
 use Rattle.ld_machine.specs.Plan.{Part, hard_moment, owned_items}
-use Rattle.ld_plan.specs.Requirement.{owned_users, most_owned_users}
+use Rattle.ld_machine.specs.Requirement.{owned_users, most_owned_users}
 use Rattle.ld_plan.specs.declared.row.Row.{Row}
 
 abbrev pub row_of : Part → Row

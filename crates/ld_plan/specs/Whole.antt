@@ -10,7 +10,7 @@ use Rattle.ld_machine.specs.Scenario.{executor_arrivals}
 use Rattle.ld_options.specs.declared.options.Options.{Options}
 use Rattle.ld_plan.specs.IsPlanOf.{IsPlanOf}
 use Rattle.ld_plan.specs.PlanView.{PlanView}
-use Rattle.ld_plan.specs.Requirement.{most_owned_users, owned_users}
+use Rattle.ld_machine.specs.Requirement.{most_owned_users, owned_users}
 
 -- these are the plans of all positions of the sequence, in order
 pub record AreAllPlans (options : Options) (sequence : List Frac) (entries : ℕ) (plans : List PlanView) : Type 0 where

@@ -13,7 +13,7 @@ ghost use Rattle.ld_plan.specs.Executor.{max_of, pre_of, timetable_of};
 ghost use Rattle.ld_plan.specs.IsPlanOf.{IsPlanOf, IsSequenceStriping, IsSound, whole_striping};
 ghost use Rattle.ld_plan.specs.PlanFault.{IsAccepted, IsRefusal};
 ghost use Rattle.ld_plan.specs.PlanView.{PlanView, arrival_of};
-ghost use Rattle.ld_plan.specs.Requirement.{IsRequirement};
+ghost use Rattle.ld_machine.specs.Requirement.{IsRequirement};
 ghost use Rattle.ld_plan.specs.Whole.{AreAllPlans, arrivals_at, most_users_at, users_at};
 ghost use Rattle.ld_plan.specs.declared.fault.PlanFault.{PlanFault};
 

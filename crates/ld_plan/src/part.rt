@@ -56,7 +56,7 @@ impl Part {
     ghost use Rattle.ld_plan.specs.PartView.{PartView};
     ghost use Rattle.ld_plan.specs.PlanFault.{IsManyOf};
     ghost use Rattle.ld_plan.specs.PlanView.{arrival_of};
-    ghost use Rattle.ld_plan.specs.Requirement.{IsRequirement};
+    ghost use Rattle.ld_machine.specs.Requirement.{IsRequirement};
     ghost use Rattle.ld_plan.specs.Row.{row_of};
     ghost use Rattle.ld_plan.specs.declared.fault.PlanFault.TheVariants.{Memory};
 

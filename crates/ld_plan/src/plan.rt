@@ -54,7 +54,7 @@ impl Plan {
     ghost use Rattle.ld_options.specs.Ranges.{most_users};
     ghost use Rattle.ld_plan.specs.IsPlanOf.{IsPlanOf};
     ghost use Rattle.ld_plan.specs.PlanView.{Whole, arrival_of};
-    ghost use Rattle.ld_plan.specs.Requirement.{IsRequirement};
+    ghost use Rattle.ld_machine.specs.Requirement.{IsRequirement};
     ghost use Rattle.ld_plan.specs.Row.{row_of};
     ghost use Rattle.ld_plan.specs.declared.fault.PlanFault.{PlanFault};
     ghost use Rattle.ld_plan.specs.declared.fault.PlanFault.TheVariants.{Memory};

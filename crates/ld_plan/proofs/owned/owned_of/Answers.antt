@@ -1,7 +1,7 @@
 use Rattle.std.proofs.Common.{◌∷◌, [], arith, ap, refl, sym, subst}
 use Rattle.std.specs.Prelude.{List}
 use Rattle.ld_plan.specs.PartView.{PartView, parts_of, wholes_of}
-use Rattle.ld_plan.specs.Requirement.{IsRequirement}
+use Rattle.ld_machine.specs.Requirement.{IsRequirement}
 use Rattle.ld_plan.proofs.RefusalLemmas.{accepted_of_one}
 use Rattle.ld_plan.proofs.owned.owned_of.Goals as goal
 
