@@ -19,7 +19,7 @@ pub record Inside (plan : Plan) (state : State) (entries : List Entry) : Type 0 
   pub begins : begins_two plan (after_entries plan state before) one ≡ true
 
 -- what two entries of a step begin with begins two
-two_begin : (plan : Plan) (state : State) (one two : Entry) → adds_two plan state one two ≡ true → begins_two plan state one ≡ true
+pub two_begin : (plan : Plan) (state : State) (one two : Entry) → adds_two plan state one two ≡ true → begins_two plan state one ≡ true
 two_begin plan state one two h =
     let found = In-from_any (λ (r : Result). same_entries r.entries (one ∷ two ∷ [])) (results_for plan state one) h in
     let same = same_entries_tells found.0.entries (one ∷ two ∷ []) found.2 in

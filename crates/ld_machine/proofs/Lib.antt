@@ -8,6 +8,7 @@ pub mod SourceLemmas
 pub mod DropLemmas
 pub mod WaitLemmas
 pub mod FrontLemmas
+pub mod PrefixLemmas
 pub mod ItemLemmas
 pub mod HolderLemmas
 pub mod TurnLemmas

@@ -117,7 +117,7 @@ same_act_tells (Close n) b h = absurd (cc)
 same_act_tells (Control command) (Control command') h = ap Control (same_command_tells command command' h)
 same_act_tells (Control command) b h = absurd (cc)
 
-same_entry_tells : (a b : Entry) → same_entry a b ≡ true → a ≡ b
+pub same_entry_tells : (a b : Entry) → same_entry a b ≡ true → a ≡ b
 same_entry_tells a b h = grind (arith, common_steps, same_act_tells a.act b.act)
 
 pub same_entries_tells : (a b : List Entry) → same_entries a b ≡ true → a ≡ b

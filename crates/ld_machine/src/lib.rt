@@ -10,6 +10,7 @@ mod further_examples;
 mod lateness;
 mod laws;
 mod playing;
+mod prefixes;
 mod together;
 mod virtual_time;
 mod wish_examples;
@@ -29,6 +30,7 @@ pub use laws::{
     shares_after_acts, slots_once, starts_alternate, steps_leave, waits,
 };
 pub use playing::{busy_turns, keeps_room, numbered, players, players_made};
+pub use prefixes::{first_illegal_entry, fronts_are_prefixes};
 pub use together::{
     all_over, busy_behind_acts, busy_behind_steps, busy_in_share, busy_under_change, first_of_all,
     first_of_each, first_of_list, first_performed, first_step_by_step, free_behind_acts,

@@ -7,7 +7,7 @@ ghost use Rattle.ld_machine.specs.Prefixes.{IsPrefix, IsFirstBeyond, IsFirstIlle
 
 /// The tests of fronts say which entries are prefixes of legal histories: all up to the first entry beyond
 /// them, and the whole where there is none.
-pub fn prefixes()
+pub fn fronts_are_prefixes()
     ensures front { (plan : Plan) (history : List Entry) → IsTrue (is_front plan history) ↔ IsPrefix plan history }
     ensures beyond { (plan : Plan) (history : List Entry) (turn : ℕ) → (first_beyond plan history ≡ Some turn) ↔ IsFirstBeyond plan history turn }
     ensures none { (plan : Plan) (history : List Entry) → (first_beyond plan history ≡ None) ↔ IsPrefix plan history }

@@ -3,13 +3,14 @@ use Rattle.std.proofs.Common.{Contains, ◌≡◌, ℕ, ◌+◌, Bool, true, fal
 use Rattle.std.specs.Prelude.{is_some}
 use Rattle.std.specs.List.{list_any}
 use Rattle.std.proofs.lemmas.Grind.{common_steps}
+use Rattle.ld_base.specs.declared.wish.Wish.{Wish}
 use Rattle.ld_base.specs.declared.wish.Wish.TheVariants.{Nothing, Release, Take, Start, More, Drop, Late, Close}
 use Rattle.ld_machine.specs.Plan.{Arrival, ArrivalRate, Part, due_moment, hard_moment}
 use Rattle.ld_machine.specs.State.{Share, Controls, HeldUser, idle_users, held_count}
 use Rattle.ld_machine.specs.Scenario.{Scenario, first_of, has_ended, may_hold_more, may_release, may_take, due_arrival, may_close}
 use Rattle.ld_machine.specs.Moves.{Answer, CountLate, StartOn, GrowAndStart, TakeAndStart, DropArrival, Move, ReleaseUser, TakeUser, AnswerArrival, CloseScenario, Users, answers, releases, takes, arrivals, starts, drops, closes}
 use Rattle.ld_machine.specs.Order.{is_before, place_of}
-use Rattle.ld_machine.specs.Wishes.{later_moves, more_answers, IsFirstOf, TellsFirst}
+use Rattle.ld_machine.specs.Wishes.{later_moves, more_answers, named_user, IsFirstOf, StandsForFirst, TellsFirst}
 use Rattle.ld_machine.proofs.ListLemmas.{In, here, there, In-map, filter-In, In-from_Contains, Contains-from_In, nothing_in}
 use Rattle.ld_machine.proofs.OrderLemmas.{before_itself}
 use Rattle.ld_machine.proofs.WaitLemmas.{In-left, In-right, flat_map-In}
@@ -217,6 +218,57 @@ module _ (part : Part) (pre most : ℕ) (planned : List Arrival) (share : Share)
       let among = in_releases (ReleaseUser n found.0.user) (map-In (λ (h : HeldUser). ReleaseUser n h.user) found.0 kept) in
       subst (λ (k : ℕ). IsFirstOf later (ReleaseUser n k)) found.2 (first_by (ReleaseUser n found.0.user) among before_release)
 
+  -- ---- what a wish that names the preferred user stands for, where that is a first act
+
+  data NamedFirst : Type 0 where
+    releasing : IsFirstOf later (ReleaseUser n prefer) → NamedFirst
+    starting : (due item until : ℕ) → IsFirstOf later (AnswerArrival n due item until (StartOn prefer)) → NamedFirst
+
+  named_first : (other : Wish) → named_user other ≡ Some prefer → StandsForFirst n users s t other → NamedFirst
+  named_first (Release user) names stands =
+      let is : user ≡ prefer = cc in
+      releasing (subst (λ (k : ℕ). IsFirstOf later (ReleaseUser n k)) is (stands (ReleaseUser n user) (Contains-from_In (ReleaseUser n user) (here {xs = []}))))
+  named_first (Start user item until due) names stands =
+      let is : user ≡ prefer = cc in
+      let act : ℕ → Move = λ k. AnswerArrival n due item until (StartOn k) in
+      starting due item until (subst (λ (k : ℕ). IsFirstOf later (act k)) is (stands (act user) (Contains-from_In (act user) (here {xs = []}))))
+  named_first Nothing names stands = absurd (cc)
+  named_first (Take slot) names stands = absurd (cc)
+  named_first (More item until due slot) names stands = absurd (cc)
+  named_first (Drop item due) names stands = absurd (cc)
+  named_first (Late item due) names stands = absurd (cc)
+  named_first Close names stands = absurd (cc)
+
+  released_none : NoRelease → (user : ℕ) (move : Move) → move ≡ ReleaseUser n user → Source users n s t move → ⊥
+  released_none none user move is (by_stop may) = cc
+  released_none none user move is (by_release h at may) = goes none h at may
+  released_none none user move is (by_take user' slot at of may) = cc
+  released_none none user move is (by_arrival a answer due at) = cc
+  released_none none user move is (by_start h item at may) = cc
+  released_none none user move is (by_drop item may) = cc
+  released_none none user move is (by_close may) = cc
+
+  no_release_first : NoRelease → IsFirstOf later (ReleaseUser n prefer) → ⊥
+  no_release_first none first = released_none none prefer (ReleaseUser n prefer) refl (source_in (ReleaseUser n prefer) first.among)
+
+  started_user : (user : ℕ) (due item until : ℕ) (move : Move) → move ≡ AnswerArrival n due item until (StartOn user) → Source users n s t move →
+      ((a : Arrival) × (due_arrival s t ≡ Some a)) × In (StartOn user) (answers s users t)
+  started_user user due item until move is (by_stop may) = absurd (cc)
+  started_user user due item until move is (by_release h at may) = absurd (cc)
+  started_user user due item until move is (by_take user' slot at of may) = absurd (cc)
+  started_user user due item until move is (by_arrival a answer due' at) =
+      let same : answer ≡ StartOn user = cc in ((a, due'), subst (λ (x : Answer). In x (answers s users t)) same at)
+  started_user user due item until move is (by_start h item' at may) = absurd (cc)
+  started_user user due item until move is (by_drop item' may) = absurd (cc)
+  started_user user due item until move is (by_close may) = absurd (cc)
+
+  -- an arrival starts on the preferred user, where that is a first act
+  starts_preferred : (due item until : ℕ) → IsFirstOf later (AnswerArrival n due item until (StartOn prefer)) →
+      ((a : Arrival) × (due_arrival s t ≡ Some a)) × In (StartOn prefer) (answers s users t)
+  starts_preferred due item until first =
+      let move = AnswerArrival n due item until (StartOn prefer) in
+      started_user prefer due item until move refl (source_in move first.among)
+
   pub release_told : (user : ℕ) → chosen_of prefer (idle_of share) ≡ Some user → ((slot : ℕ) → may_release s slot t ≡ true) →
       TellsFirst n users s t prefer (Release user)
   release_told user chosen may =
@@ -226,26 +278,56 @@ module _ (part : Part) (pre most : ℕ) (planned : List Arrival) (share : Share)
             subst (λ (m : Move). IsFirstOf later m) same (release_first user (chosen_in prefer (idle_of share) user chosen) may);
         something = λ e. absurd (cc);
         nothing = λ e. absurd (cc);
-        preferred = λ told.
-            let among = (told (ReleaseUser n prefer) (Contains-from_In (ReleaseUser n prefer) (here {xs = []}))).among in
-            let idle = released_user prefer (ReleaseUser n prefer) refl (source_in (ReleaseUser n prefer) among) in
-            ap Release (chosen_preferred prefer (idle_of share) user chosen idle);
+        preferred = λ other names stands. preferred_is (named_first other names stands);
       }
+
+    where
+      preferred_is : NamedFirst → Some user ≡ Some prefer
+      preferred_is (releasing first) =
+          let idle = released_user prefer (ReleaseUser n prefer) refl (source_in (ReleaseUser n prefer) first.among) in
+          ap Some (chosen_preferred prefer (idle_of share) user chosen idle)
+      preferred_is (starting due item until first) =
+          let mine = release_first user (chosen_in prefer (idle_of share) user chosen) may in
+          let behind = first.none_before (ReleaseUser n user) mine.among in
+          absurd (cc)
+
+  free_one : (numbers : List ℕ) → is_some (first_of numbers) ≡ true → (user : ℕ) × In user numbers
+  free_one [] h = absurd (cc)
+  free_one (x ∷ xs) h = (x, here)
+
+  take_among : (user : ℕ) → In user users.free → may_take s (held_count share) t ≡ true → In (TakeUser n user (held_count share)) later
+  take_among user free may =
+      let slot = filter-In (λ slot. may_take s slot t) (held_count share) (here {xs = []}) may in
+      in_takes (TakeUser n user (held_count share))
+      (flat_map-In (λ slot. map (λ user. TakeUser n user slot) users.free) (held_count share) (TakeUser n user (held_count share)) slot
+      (map-In (λ user. TakeUser n user (held_count share)) user free))
 
   pub take_told : NoRelease → may_take s (held_count share) t ≡ true → is_some (first_of users.free) ≡ true → TellsFirst n users s t prefer (Take (held_count share))
   take_told none may free =
       record {
         first = λ move at.
             let found = In-map (λ user. TakeUser n user (held_count share)) move users.free (In-from_Contains move (map (λ user. TakeUser n user (held_count share)) users.free) at.0 at.1 at.2) in
-            let slot = filter-In (λ slot. may_take s slot t) (held_count share) (here {xs = []}) may in
-            let among = in_takes (TakeUser n found.0 (held_count share))
-            (flat_map-In (λ slot. map (λ user. TakeUser n user slot) users.free) (held_count share) (TakeUser n found.0 (held_count share)) slot
-            (map-In (λ user. TakeUser n user (held_count share)) found.0 found.1)) in
-            subst (λ (m : Move). IsFirstOf later m) found.2 (first_by (TakeUser n found.0 (held_count share)) among (before_take none));
+            subst (λ (m : Move). IsFirstOf later m) found.2
+            (first_by (TakeUser n found.0 (held_count share)) (take_among found.0 found.1 may) (before_take none));
         something = λ e. absurd (a_first (λ user. TakeUser n user (held_count share)) users.free free e);
         nothing = λ e. absurd (cc);
-        preferred = λ told. refl;
+        preferred = λ other names stands. absurd (not_named (named_first other names stands));
       }
+    where
+      not_named : NamedFirst → ⊥
+      not_named (releasing first) = no_release_first none first
+      not_named (starting due item until first) =
+          let one = free_one users.free free in
+          let move = TakeUser n one.0 (held_count share) in
+          let behind = first.none_before move (Contains-from_In move (take_among one.0 one.1 may)) in
+          cc
+
+  -- where no arrival is due and nobody is released, no wish that names a user stands for a first act
+  undue_not_named : NoRelease → due_arrival s t ≡ None → NamedFirst → ⊥
+  undue_not_named none no_due (releasing first) = no_release_first none first
+  undue_not_named none no_due (starting due item until first) =
+      let due_one = (starts_preferred due item until first).0.1 in
+      cc
 
   pub close_told : NoRelease → NoTake → due_arrival s t ≡ None → may_close s t ≡ true → TellsFirst n users s t prefer Close
   close_told none no_take no_due may =
@@ -256,7 +338,7 @@ module _ (part : Part) (pre most : ℕ) (planned : List Arrival) (share : Share)
             subst (λ (m : Move). IsFirstOf later m) same (first_by (CloseScenario n) (in_closes (CloseScenario n) closing) (before_close none no_take no_due));
         something = λ e. absurd (cc);
         nothing = λ e. absurd (cc);
-        preferred = λ told. refl;
+        preferred = λ other names stands. absurd (undue_not_named none no_due (named_first other names stands));
       }
 
   no_source : NoRelease → NoTake → due_arrival s t ≡ None → may_close s t ≡ false → (move : Move) → Source users n s t move → is_stop move ≡ false → ⊥
@@ -275,7 +357,7 @@ module _ (part : Part) (pre most : ℕ) (planned : List Arrival) (share : Share)
         something = λ e. refl;
         nothing = λ e. nothing_left later (λ move at.
             let source = later_source users n s t move at in no_source none no_take no_due no_close move source.0 source.1);
-        preferred = λ told. refl;
+        preferred = λ other names stands. absurd (undue_not_named none no_due (named_first other names stands));
       }
 
   -- ---- arrivals
@@ -295,27 +377,29 @@ module _ (part : Part) (pre most : ℕ) (planned : List Arrival) (share : Share)
       let found = In-map (λ x. answered_by a x) move wished (In-from_Contains move (map (λ x. answered_by a x) wished) at.0 at.1 at.2) in
       subst (λ (m : Move). IsFirstOf later m) found.2 (answer_first none no_take a found.0 due (among found.0 found.1))
 
+  -- where nobody is released and no answer is a start on the preferred user, no wish that names it stands for a
+  -- first act
+  unanswered_not_named : NoRelease → (In (StartOn prefer) (answers s users t) → ⊥) → NamedFirst → ⊥
+  unanswered_not_named none not_started (releasing first) = no_release_first none first
+  unanswered_not_named none not_started (starting due item until first) = not_started (starts_preferred due item until first).1
+
   pub late_told : NoRelease → NoTake → (a : Arrival) → due_arrival s t ≡ Some a → has_ended s t ≡ true → TellsFirst n users s t prefer (Late a.item (due_moment s.part a))
   late_told none no_take a due ended =
       record {
         first = answers_told none no_take a due (CountLate ∷ []) (λ answer at. rw ended at);
         something = λ e. absurd (cc);
         nothing = λ e. absurd (cc);
-        preferred = λ told. refl;
+        preferred = λ other names stands. absurd (unanswered_not_named none not_started (named_first other names stands));
       }
+    where
+      not_started : In (StartOn prefer) (answers s users t) → ⊥
+      not_started at =
+          let one : In (StartOn prefer) (CountLate ∷ []) = rw ended at at in
+          let same = only_one (StartOn prefer) CountLate one in
+          cc
 
   starting : has_ended s t ≡ false → is_some (first_of (idle_users share)) ≡ true → answers s users t ≡ map (λ (h : HeldUser). StartOn h.user) (idle_users share)
   starting not_ended some_idle = rw (not_ended, some_idle) refl
-
-  started_user : (user : ℕ) (due item until : ℕ) (move : Move) → move ≡ AnswerArrival n due item until (StartOn user) → Source users n s t move → In (StartOn user) (answers s users t)
-  started_user user due item until move is (by_stop may) = absurd (cc)
-  started_user user due item until move is (by_release h at may) = absurd (cc)
-  started_user user due item until move is (by_take user' slot at of may) = absurd (cc)
-  started_user user due item until move is (by_arrival a answer due' at) =
-      let same : answer ≡ StartOn user = cc in subst (λ (x : Answer). In x (answers s users t)) same at
-  started_user user due item until move is (by_start h item' at may) = absurd (cc)
-  started_user user due item until move is (by_drop item' may) = absurd (cc)
-  started_user user due item until move is (by_close may) = absurd (cc)
 
   start_in : (user : ℕ) → In user (idle_of share) → In (StartOn user) (map (λ (h : HeldUser). StartOn h.user) (idle_users share))
   start_in user at =
@@ -340,13 +424,14 @@ module _ (part : Part) (pre most : ℕ) (planned : List Arrival) (share : Share)
             rw all (subst (λ (x : Answer). In x (map (λ (h : HeldUser). StartOn h.user) (idle_users share))) same (start_in user idle)));
         something = λ e. absurd (cc);
         nothing = λ e. absurd (cc);
-        preferred = λ told.
-            let other = answered_by a (StartOn prefer) in
-            let among = (told other (Contains-from_In other (here {xs = []}))).among in
-            let of_answers = started_user prefer (due_moment s.part a) a.item (hard_moment s.part) other refl (source_in other among) in
-            let its = idle_of_start prefer (rw all at of_answers) in
-            ap (λ (k : ℕ). Start k a.item (hard_moment s.part) (due_moment s.part a)) (chosen_preferred prefer (idle_of share) user chosen its);
+        preferred = λ other names stands. preferred_is all (named_first other names stands);
       }
+    where
+      preferred_is : answers s users t ≡ map (λ (h : HeldUser). StartOn h.user) (idle_users share) → NamedFirst → Some user ≡ Some prefer
+      preferred_is all (releasing first) = absurd (no_release_first none first)
+      preferred_is all (starting due' item until first) =
+          let its = idle_of_start prefer (rw all at (starts_preferred due' item until first).1) in
+          ap Some (chosen_preferred prefer (idle_of share) user chosen its)
 
   no_idle : idle_of share ≡ [] → is_some (first_of (idle_users share)) ≡ false
   no_idle none =
@@ -361,6 +446,22 @@ module _ (part : Part) (pre most : ℕ) (planned : List Arrival) (share : Share)
       let of_free : Q all.free = elim all.free as Q [ [] ↦ λ h. cc | x ∷ rest ↦ λ h. cc ] in
       let from : P (nat_lt all.made all.limit) = elim (nat_lt all.made all.limit) as P [ true ↦ λ h. cc | false ↦ of_free ] in
       from e
+
+  -- nobody that is held is among the answers where one more user is needed
+  more_no_start : (all : Users) (user slot : ℕ) → In (StartOn user) (more_answers all slot) → ⊥
+  more_no_start all user slot at =
+      let taken : List Answer = map (λ k. TakeAndStart k slot) all.free in
+      let P : Bool → Type 0 = λ b. In (StartOn user) (cond b (GrowAndStart (all.made + 1) slot ∷ []) (if is_some (first_of all.free) then taken else DropArrival ∷ [])) → ⊥ in
+      let Q : Bool → Type 0 = λ b. In (StartOn user) (cond b taken (DropArrival ∷ [])) → ⊥ in
+      let of_free : Q (is_some (first_of all.free)) = elim (is_some (first_of all.free)) as Q [
+        | true ↦ λ h. let found = In-map (λ k. TakeAndStart k slot) (StartOn user) all.free h in let same = found.2 in cc
+        | false ↦ λ h. let same = only_one (StartOn user) DropArrival h in cc
+      ] in
+      let from : P (nat_lt all.made all.limit) = elim (nat_lt all.made all.limit) as P [
+        | true ↦ λ h. let same = only_one (StartOn user) (GrowAndStart (all.made + 1) slot) h in cc
+        | false ↦ of_free
+      ] in
+      from at
 
   mapped_something : (f : Answer → Move) (xs : List Answer) → map f xs ≡ [] → xs ≡ []
   mapped_something f [] e = refl
@@ -377,8 +478,11 @@ module _ (part : Part) (pre most : ℕ) (planned : List Arrival) (share : Share)
         first = answers_told none no_take a due (more_answers users (held_count share)) (λ answer at. rw (growing not_ended (no_idle idle) more) at);
         something = λ e. absurd (more_something users (held_count share) (mapped_something (λ x. answered_by a x) (more_answers users (held_count share)) e));
         nothing = λ e. absurd (cc);
-        preferred = λ told. refl;
+        preferred = λ other names stands. absurd (unanswered_not_named none not_started (named_first other names stands));
       }
+    where
+      not_started : In (StartOn prefer) (answers s users t) → ⊥
+      not_started at = more_no_start users prefer (held_count share) (rw (growing not_ended (no_idle idle) more) at at)
 
   dropping : has_ended s t ≡ false → is_some (first_of (idle_users share)) ≡ false → may_hold_more s ≡ false → answers s users t ≡ DropArrival ∷ []
   dropping not_ended none more = rw (not_ended, none, more) refl
@@ -390,5 +494,11 @@ module _ (part : Part) (pre most : ℕ) (planned : List Arrival) (share : Share)
         first = answers_told none no_take a due (DropArrival ∷ []) (λ answer at. rw (dropping not_ended (no_idle idle) more) at);
         something = λ e. absurd (cc);
         nothing = λ e. absurd (cc);
-        preferred = λ told. refl;
+        preferred = λ other names stands. absurd (unanswered_not_named none not_started (named_first other names stands));
       }
+    where
+      not_started : In (StartOn prefer) (answers s users t) → ⊥
+      not_started at =
+          let one : In (StartOn prefer) (DropArrival ∷ []) = rw (dropping not_ended (no_idle idle) more) at at in
+          let same = only_one (StartOn prefer) DropArrival one in
+          cc
