@@ -21,6 +21,7 @@ pub mod ShareEffectLemmas
 pub mod FirstOfAllLemmas
 pub mod FirstOfEachLemmas
 pub mod CandidateLemmas
+pub mod ValidPlanLemmas
 pub mod BusyLemmas
 pub mod FreeLemmas
 pub mod WellHeldLemmas

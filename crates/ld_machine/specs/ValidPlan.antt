@@ -1,5 +1,5 @@
 -- Valid plans: what a plan keeps to, whatever its test.
-use Rattle.std.specs.Prelude.{◌==◌, ◌&&◌, List, map, filter, ◌≡◌, true, Contains}
+use Rattle.std.specs.Prelude.{◌==◌, ◌&&◌, ℕ, List, map, filter, ◌≡◌, true, Contains}
 use Rattle.std.specs.List.Sorted.{IsStrictlyIncreasing}
 use Rattle.ld_machine.specs.Plan.{SlotItem, Part, Plan, is_external, owned_items, owned_slots}
 use Rattle.ld_machine.specs.Scenario.{Scenario, is_open_item}

@@ -12,6 +12,7 @@ mod laws;
 mod playing;
 mod prefixes;
 mod together;
+mod valid_plans;
 mod virtual_time;
 mod wish_examples;
 
@@ -39,5 +40,6 @@ pub use together::{
     next_candidate_of_parts, nothing_first, order_of_places, room_behind_steps, room_under_change,
     scenarios_stand, scenarios_under_change, two_together, users_of_acts, well_held,
 };
+pub use valid_plans::{least_open, one_requirement, two_valid_plans, valid_plans_fit};
 pub use virtual_time::{someone_plays, starts_last, uncommanded, waits_on, well_timed_plans};
 pub use wish_examples::{wishes, wishes_at_the_end};

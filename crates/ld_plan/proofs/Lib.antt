@@ -4,6 +4,7 @@ pub mod OwnedLemmas
 pub mod StripingLemmas
 pub mod PartLemmas
 pub mod TimedLemmas
+pub mod ValidLemmas
 pub mod PlanLemmas
 pub mod RefusalLemmas
 pub mod AllPlansLemmas

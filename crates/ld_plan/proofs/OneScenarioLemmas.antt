@@ -1,4 +1,4 @@
--- A plan of a test with one scenario has one part, which is well timed and needs the users that it owns.
+-- A plan of a test with one scenario has one part, which is valid and needs the users that it owns.
 use Rattle.std.proofs.Common.{◌≡◌, ◌≤◌, ◌∙◌, ◌∷◌, [], List, length, arith, ap, refl, sym, subst}
 use Rattle.std.specs.Prelude.{Contains}
 use Rattle.std.specs.List.{AllByRecursion, AllZip}
@@ -6,7 +6,8 @@ use Rattle.std.proofs.lemmas.List.Elements.{All-contains, All-cons, All-nil}
 use Rattle.ld_stripe.specs.Striping.{Striping, share_at}
 use Rattle.ld_stripe.proofs.StripingLaws.{share_at_most}
 use Rattle.ld_machine.specs.Plan.{Part}
-use Rattle.ld_machine.specs.WellTimed.{IsWellTimed, WellTimed}
+use Rattle.ld_machine.specs.ValidPlan.{IsValidPart, IsValidPlan}
+use Rattle.ld_machine.specs.WellTimed.{WellTimed}
 use Rattle.ld_options.specs.Ranges.{IsScenarioInRange}
 use Rattle.ld_options.specs.declared.scenario.Scenario.{Scenario}
 use Rattle.ld_plan.specs.Executor.{pre_of, max_of}
@@ -17,8 +18,10 @@ use Rattle.ld_plan.specs.PlanView.{PlanView}
 use Rattle.ld_machine.specs.Requirement.{IsRequirement}
 use Rattle.ld_plan.proofs.PartLemmas.{few_users, pre_within}
 use Rattle.ld_plan.proofs.StripingLemmas.{share_rises}
-use Rattle.ld_plan.proofs.TimedLemmas.{begins_before_end, part_timed}
-use Rattle.ld_plan.proofs.RequirementLemmas.{of_one_part, one_greatest}
+use Rattle.ld_plan.proofs.TimedLemmas.{begins_before_end}
+use Rattle.ld_plan.proofs.ValidLemmas.{part_valid}
+use Rattle.ld_machine.proofs.ValidPlanLemmas.{one_greatest}
+use Rattle.ld_plan.proofs.RequirementLemmas.{of_one_part}
 
 -- ---- one part
 
@@ -57,15 +60,22 @@ has_one seen made =
     let is = made.is_plan in
     one_of is.are_parts.striping seen seen.options.scenarios is.views seen.options.one made.sound.in_range refl is.are_parts.owned is.parts is.wholes
 
--- ---- it is well timed
+-- ---- it is valid
+
+pub plan_valid : (seen : PlanView) → IsMade seen → IsValidPlan seen.plan
+plan_valid seen made =
+    let one = has_one seen made in
+    let valid = subst IsValidPart (sym one.part.part_is)
+    (part_valid (sample_room seen.options.scripts.scripts one.scenario.script) one.striping one.part.items seen.position one.scenario one.in_range) in
+    record {
+      parts = λ part has.
+          let only : Contains (one.view.part ∷ []) part = subst (λ (ps : List Part). Contains ps part) one.parts has in
+          All-contains IsValidPart (one.view.part ∷ []) part (All-cons IsValidPart one.view.part [] valid (All-nil IsValidPart)) only;
+      users = made.is_plan.users;
+    }
 
 pub plan_timed : (seen : PlanView) → IsMade seen → WellTimed seen.plan
-plan_timed seen made part has =
-    let one = has_one seen made in
-    let only : Contains (one.view.part ∷ []) part = subst (λ (ps : List Part). Contains ps part) one.parts has in
-    let timed = subst IsWellTimed (sym one.part.part_is)
-    (part_timed (sample_room seen.options.scripts.scripts one.scenario.script) one.striping one.part.items seen.position one.scenario one.in_range) in
-    All-contains IsWellTimed (one.view.part ∷ []) part (All-cons IsWellTimed one.view.part [] timed (All-nil IsWellTimed)) only
+plan_timed seen made part has = ((plan_valid seen made).parts part has).timed
 
 -- ---- it needs the users that it owns
 

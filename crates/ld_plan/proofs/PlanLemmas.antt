@@ -9,7 +9,7 @@ use Rattle.ld_plan.specs.PartView.{parts_of, wholes_of}
 use Rattle.ld_plan.specs.PlanView.{PlanView}
 use Rattle.ld_machine.specs.Requirement.{IsRequirement}
 use Rattle.ld_plan.proofs.PartLemmas.{one_parts, one_place}
-use Rattle.ld_plan.proofs.RequirementLemmas.{one_greatest}
+use Rattle.ld_machine.proofs.ValidPlanLemmas.{one_greatest}
 
 -- plans of one machine's plan are one
 same_plan : (a b : Plan) → a.parts ≡ b.parts → a.planned ≡ b.planned → a.limit ≡ b.limit → a.entry_limit ≡ b.entry_limit → a.names ≡ b.names → a ≡ b

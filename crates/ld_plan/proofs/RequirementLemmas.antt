@@ -55,12 +55,3 @@ of_one_part part pre most arrivals is lasts within =
             omega arith;
       };
     }
-
--- parts need one number of users
-pub one_greatest : (users : ℕ → ℕ) (a b : ℕ) → IsGreatest users a → IsGreatest users b → a ≡ b
-one_greatest users a b is_a is_b =
-    let reached_a = is_a.reached in
-    let reached_b = is_b.reached in
-    let below_a = is_b.at_most is_a.moment in
-    let below_b = is_a.at_most is_b.moment in
-    omega arith

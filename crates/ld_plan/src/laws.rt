@@ -6,14 +6,12 @@ ghost use Rattle.ld_segment.specs.Segments.{one_point, zero_point};
 ghost use Rattle.ld_segment.specs.declared.segment.Segment.{Segment};
 ghost use Rattle.ld_stripe.specs.Striping.{IsStripingOf, shares_at};
 ghost use Rattle.ld_arrival.specs.Schedule.{schedule};
-ghost use Rattle.ld_machine.specs.Plan.{Part};
 ghost use Rattle.ld_options.specs.declared.options.Options.{Options};
 ghost use Rattle.ld_options.specs.declared.scenario.Scenario.{Scenario};
 ghost use Rattle.ld_plan.specs.Executor.{max_of, pre_of, timetable_of};
 ghost use Rattle.ld_plan.specs.IsPlanOf.{IsPlanOf, IsSequenceStriping, IsSound, whole_striping};
 ghost use Rattle.ld_plan.specs.PlanFault.{IsAccepted, IsRefusal};
 ghost use Rattle.ld_plan.specs.PlanView.{PlanView, arrival_of};
-ghost use Rattle.ld_machine.specs.Requirement.{IsRequirement};
 ghost use Rattle.ld_plan.specs.Whole.{AreAllPlans, arrivals_at, most_users_at, users_at};
 ghost use Rattle.ld_plan.specs.declared.fault.PlanFault.{PlanFault};
 
@@ -29,14 +27,6 @@ pub fn accepted_or_refused()
 pub fn one_refusal()
     ensures { (options : Options) (segment : Segment) (sequence : List Frac) (entries : ℕ) → IsSound options sequence → (a b : PlanFault) →
         IsRefusal options segment sequence entries a → IsRefusal options segment sequence entries b → a ≡ b }
-{}
-
-/// Parts need one number of planned users and have one limit, and no more users are planned than the
-/// limit.
-pub fn one_requirement()
-    ensures planned { (parts : List Part) (a b m n : ℕ) → IsRequirement parts a m → IsRequirement parts b n → a ≡ b }
-    ensures limit { (parts : List Part) (a b m n : ℕ) → IsRequirement parts a m → IsRequirement parts b n → m ≡ n }
-    ensures within { (parts : List Part) (planned limit : ℕ) → IsRequirement parts planned limit → planned ≤ limit }
 {}
 
 /// A segment of a test and a number of entries mean one plan.

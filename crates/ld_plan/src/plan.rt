@@ -55,6 +55,7 @@ impl Plan {
     ghost use Rattle.ld_plan.specs.IsPlanOf.{IsPlanOf};
     ghost use Rattle.ld_plan.specs.PlanView.{Whole, arrival_of};
     ghost use Rattle.ld_machine.specs.Requirement.{IsRequirement};
+    ghost use Rattle.ld_machine.specs.ValidPlan.{IsValidPlan};
     ghost use Rattle.ld_plan.specs.Row.{row_of};
     ghost use Rattle.ld_plan.specs.declared.fault.PlanFault.{PlanFault};
     ghost use Rattle.ld_plan.specs.declared.fault.PlanFault.TheVariants.{Memory};
@@ -117,7 +118,8 @@ impl Plan {
         self.position
     }
 
-    /// How many users the plan needs. Its arrivals are due before the ends of their scenarios.
+    /// How many users the plan needs. It is a valid plan: its items rise, and its arrivals are due before
+    /// the ends of their scenarios.
     pub fn users(&self) -> Users
         ensures planned { result.planned ≡ self.now.plan.planned }
         ensures limit { result.limit ≡ self.now.plan.limit }
@@ -125,6 +127,7 @@ impl Plan {
         ensures within { result.planned ≤ result.limit }
         ensures most { result.limit ≤ most_users }
         ensures timed { WellTimed self.now.plan }
+        ensures valid { IsValidPlan self.now.plan }
     {
         self.users
     }

@@ -1,6 +1,6 @@
 use Rattle.std.proofs.Common.{arith, sym}
 use Rattle.ld_plan.specs.Plan.{plan_view}
-use Rattle.ld_plan.proofs.OneScenarioLemmas.{plan_few, plan_timed}
+use Rattle.ld_plan.proofs.OneScenarioLemmas.{plan_few, plan_timed, plan_valid}
 use Rattle.ld_plan.proofs.plan.Plan.users.Goals as goal
 
 pub returns-clause-most : goal.returns-clause-most
@@ -10,3 +10,6 @@ returns-clause-most c =
 
 pub returns-clause-timed : goal.returns-clause-timed
 returns-clause-timed c = rw (sym c.self.view_is) (plan_timed (plan_view c.self.inside) c.self.invariant)
+
+pub returns-clause-valid : goal.returns-clause-valid
+returns-clause-valid c = rw (sym c.self.view_is) (plan_valid (plan_view c.self.inside) c.self.invariant)
