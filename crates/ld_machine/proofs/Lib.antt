@@ -22,6 +22,7 @@ pub mod FirstOfAllLemmas
 pub mod FirstOfEachLemmas
 pub mod CandidateLemmas
 pub mod ValidPlanLemmas
+pub mod TwoIdleLemmas
 pub mod BusyLemmas
 pub mod FreeLemmas
 pub mod WellHeldLemmas

@@ -42,4 +42,4 @@ pub use together::{
 };
 pub use valid_plans::{least_open, one_requirement, two_valid_plans, valid_plans_fit};
 pub use virtual_time::{someone_plays, starts_last, uncommanded, waits_on, well_timed_plans};
-pub use wish_examples::{wishes, wishes_at_the_end};
+pub use wish_examples::{preferred_wishes, wishes, wishes_at_the_end};

@@ -221,17 +221,17 @@ module _ (part : Part) (pre most : ℕ) (planned : List Arrival) (share : Share)
   -- ---- what a wish that names the preferred user stands for, where that is a first act
 
   data NamedFirst : Type 0 where
-    releasing : IsFirstOf later (ReleaseUser n prefer) → NamedFirst
-    starting : (due item until : ℕ) → IsFirstOf later (AnswerArrival n due item until (StartOn prefer)) → NamedFirst
+    named_release : IsFirstOf later (ReleaseUser n prefer) → NamedFirst
+    named_start : (due item until : ℕ) → IsFirstOf later (AnswerArrival n due item until (StartOn prefer)) → NamedFirst
 
   named_first : (other : Wish) → named_user other ≡ Some prefer → StandsForFirst n users s t other → NamedFirst
   named_first (Release user) names stands =
       let is : user ≡ prefer = cc in
-      releasing (subst (λ (k : ℕ). IsFirstOf later (ReleaseUser n k)) is (stands (ReleaseUser n user) (Contains-from_In (ReleaseUser n user) (here {xs = []}))))
+      named_release (subst (λ (k : ℕ). IsFirstOf later (ReleaseUser n k)) is (stands (ReleaseUser n user) (Contains-from_In (ReleaseUser n user) (here {xs = []}))))
   named_first (Start user item until due) names stands =
       let is : user ≡ prefer = cc in
       let act : ℕ → Move = λ k. AnswerArrival n due item until (StartOn k) in
-      starting due item until (subst (λ (k : ℕ). IsFirstOf later (act k)) is (stands (act user) (Contains-from_In (act user) (here {xs = []}))))
+      named_start due item until (subst (λ (k : ℕ). IsFirstOf later (act k)) is (stands (act user) (Contains-from_In (act user) (here {xs = []}))))
   named_first Nothing names stands = absurd (cc)
   named_first (Take slot) names stands = absurd (cc)
   named_first (More item until due slot) names stands = absurd (cc)
@@ -283,10 +283,10 @@ module _ (part : Part) (pre most : ℕ) (planned : List Arrival) (share : Share)
 
     where
       preferred_is : NamedFirst → Some user ≡ Some prefer
-      preferred_is (releasing first) =
+      preferred_is (named_release first) =
           let idle = released_user prefer (ReleaseUser n prefer) refl (source_in (ReleaseUser n prefer) first.among) in
           ap Some (chosen_preferred prefer (idle_of share) user chosen idle)
-      preferred_is (starting due item until first) =
+      preferred_is (named_start due item until first) =
           let mine = release_first user (chosen_in prefer (idle_of share) user chosen) may in
           let behind = first.none_before (ReleaseUser n user) mine.among in
           absurd (cc)
@@ -315,8 +315,8 @@ module _ (part : Part) (pre most : ℕ) (planned : List Arrival) (share : Share)
       }
     where
       not_named : NamedFirst → ⊥
-      not_named (releasing first) = no_release_first none first
-      not_named (starting due item until first) =
+      not_named (named_release first) = no_release_first none first
+      not_named (named_start due item until first) =
           let one = free_one users.free free in
           let move = TakeUser n one.0 (held_count share) in
           let behind = first.none_before move (Contains-from_In move (take_among one.0 one.1 may)) in
@@ -324,8 +324,8 @@ module _ (part : Part) (pre most : ℕ) (planned : List Arrival) (share : Share)
 
   -- where no arrival is due and nobody is released, no wish that names a user stands for a first act
   undue_not_named : NoRelease → due_arrival s t ≡ None → NamedFirst → ⊥
-  undue_not_named none no_due (releasing first) = no_release_first none first
-  undue_not_named none no_due (starting due item until first) =
+  undue_not_named none no_due (named_release first) = no_release_first none first
+  undue_not_named none no_due (named_start due item until first) =
       let due_one = (starts_preferred due item until first).0.1 in
       cc
 
@@ -380,8 +380,8 @@ module _ (part : Part) (pre most : ℕ) (planned : List Arrival) (share : Share)
   -- where nobody is released and no answer is a start on the preferred user, no wish that names it stands for a
   -- first act
   unanswered_not_named : NoRelease → (In (StartOn prefer) (answers s users t) → ⊥) → NamedFirst → ⊥
-  unanswered_not_named none not_started (releasing first) = no_release_first none first
-  unanswered_not_named none not_started (starting due item until first) = not_started (starts_preferred due item until first).1
+  unanswered_not_named none not_started (named_release first) = no_release_first none first
+  unanswered_not_named none not_started (named_start due item until first) = not_started (starts_preferred due item until first).1
 
   pub late_told : NoRelease → NoTake → (a : Arrival) → due_arrival s t ≡ Some a → has_ended s t ≡ true → TellsFirst n users s t prefer (Late a.item (due_moment s.part a))
   late_told none no_take a due ended =
@@ -428,8 +428,8 @@ module _ (part : Part) (pre most : ℕ) (planned : List Arrival) (share : Share)
       }
     where
       preferred_is : answers s users t ≡ map (λ (h : HeldUser). StartOn h.user) (idle_users share) → NamedFirst → Some user ≡ Some prefer
-      preferred_is all (releasing first) = absurd (no_release_first none first)
-      preferred_is all (starting due' item until first) =
+      preferred_is all (named_release first) = absurd (no_release_first none first)
+      preferred_is all (named_start due' item until first) =
           let its = idle_of_start prefer (rw all at (starts_preferred due' item until first).1) in
           ap Some (chosen_preferred prefer (idle_of share) user chosen its)
 
