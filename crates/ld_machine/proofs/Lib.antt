@@ -23,6 +23,7 @@ pub mod FirstOfEachLemmas
 pub mod CandidateLemmas
 pub mod ValidPlanLemmas
 pub mod TwoIdleLemmas
+pub mod SteadyLemmas
 pub mod BusyLemmas
 pub mod FreeLemmas
 pub mod WellHeldLemmas

@@ -20,6 +20,7 @@ use Rattle.ld_machine.specs.Replies.{answer_reply, reply_to}
 use Rattle.ld_machine.specs.Room.{entries_with, samples_with, entries_refusal, samples_refusal, or_else, room_refusal}
 use Rattle.ld_machine.specs.Step.{Result, answered, performed, move_result, open_results, act_results}
 use Rattle.ld_machine.specs.Wait.{interval_moments, ramping_moments, level_moments, scenario_moments, untils, candidates, least_of, next_candidate, short_wait, is_external_open, wait_moment}
+use Rattle.ld_machine.specs.Wishes.{later_moves}
 use Rattle.ld_machine.specs.Rehearsal.{NothingEnabled}
 use Rattle.ld_machine.proofs.ListLemmas.{In, here, there, filter-In, In-enumerate, In-map, some_not_none, In-one, both_true}
 use Rattle.ld_machine.proofs.OrderLemmas.{none_first}
@@ -232,18 +233,44 @@ same_cells users n s t x agree =
       | false ↦ λ stopped. same_stopped users n s t x stopped agree
     ] in same refl
 
-moves_same : (users : Users) (n : ℕ) (s : Scenario) (t x : ℕ) → Agree (scenario_moments s) t x → moves_of users n s t ≡ moves_of users n s x
-moves_same users n s t x agree =
+-- and so the acts of each kind are the same
+record SameKinds (users : Users) (n : ℕ) (s : Scenario) (t x : ℕ) : Type 0 where
+  stop : stops n s t ≡ stops n s x
+  release : releases n s t ≡ releases n s x
+  take : takes n s users t ≡ takes n s users x
+  arrival : arrivals n s users t ≡ arrivals n s users x
+  start : starts n s t ≡ starts n s x
+  drop : drops n s t ≡ drops n s x
+  close : closes n s t ≡ closes n s x
+
+same_kinds : (users : Users) (n : ℕ) (s : Scenario) (t x : ℕ) → Agree (scenario_moments s) t x → SameKinds users n s t x
+same_kinds users n s t x agree =
     let same = same_cells users n s t x agree in
-    let stop : stops n s t ≡ stops n s x = rw same.stop refl in
-    let release : releases n s t ≡ releases n s x =
-    ap (λ us. map (λ (h : HeldUser). ReleaseUser n h.user) us) (filter_same (λ (h : HeldUser). may_release s h.slot t) (λ (h : HeldUser). may_release s h.slot x) (idle_users s.share) (λ h. same.release h.slot)) in
-    let take : takes n s users t ≡ takes n s users x =
-    ap (λ slots. flat_map (λ slot. map (λ user. TakeUser n user slot) users.free) slots) (filter_same (λ slot. may_take s slot t) (λ slot. may_take s slot x) (slots_to_take s.part.executor s) same.take) in
-    let start : starts n s t ≡ starts n s x = filter_map_same (start_on n s t) (start_on n s x) (idle_users s.share) same.start in
-    let drop : drops n s t ≡ drops n s x = rw same.drop refl in
-    let close : closes n s t ≡ closes n s x = rw same.close refl in
-    rw (stop, release, take, same.arrival, start, drop, close) refl
+    record {
+      stop = rw same.stop refl;
+      release =
+          ap (λ us. map (λ (h : HeldUser). ReleaseUser n h.user) us)
+          (filter_same (λ (h : HeldUser). may_release s h.slot t) (λ (h : HeldUser). may_release s h.slot x) (idle_users s.share) (λ h. same.release h.slot));
+      take =
+          ap (λ slots. flat_map (λ slot. map (λ user. TakeUser n user slot) users.free) slots)
+          (filter_same (λ slot. may_take s slot t) (λ slot. may_take s slot x) (slots_to_take s.part.executor s) same.take);
+      arrival = same.arrival;
+      start = filter_map_same (start_on n s t) (start_on n s x) (idle_users s.share) same.start;
+      drop = rw same.drop refl;
+      close = rw same.close refl;
+    }
+
+pub moves_same : (users : Users) (n : ℕ) (s : Scenario) (t x : ℕ) → Agree (scenario_moments s) t x → moves_of users n s t ≡ moves_of users n s x
+moves_same users n s t x agree =
+    let same = same_kinds users n s t x agree in
+    rw (same.stop, same.release, same.take, same.arrival, same.start, same.drop, same.close) refl
+
+-- the same acts, the stop aside
+pub later_moves_same : (users : Users) (n : ℕ) (s : Scenario) (t x : ℕ) → Agree (scenario_moments s) t x →
+    later_moves n users s t ≡ later_moves n users s x
+later_moves_same users n s t x agree =
+    let same = same_kinds users n s t x agree in
+    rw (same.release, same.take, same.arrival, same.start, same.drop, same.close) refl
 
 -- ---- the whole state
 

@@ -11,6 +11,7 @@ mod lateness;
 mod laws;
 mod playing;
 mod prefixes;
+mod steady;
 mod together;
 mod valid_plans;
 mod virtual_time;
@@ -32,6 +33,7 @@ pub use laws::{
 };
 pub use playing::{busy_turns, keeps_room, numbered, players, players_made};
 pub use prefixes::{first_illegal_entry, fronts_are_prefixes};
+pub use steady::steady_between_candidates;
 pub use together::{
     all_over, busy_behind_acts, busy_behind_steps, busy_in_share, busy_under_change, first_of_all,
     first_of_each, first_of_list, first_performed, first_step_by_step, free_behind_acts,
