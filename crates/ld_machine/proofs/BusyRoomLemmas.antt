@@ -25,7 +25,7 @@ use Rattle.ld_machine.proofs.BusyStepLemmas.{share_of_act, idle_of_act, free_of_
 use Rattle.ld_machine.proofs.BusyLemmas.{busy_hold, busy_let_go, busy_put_busy, busy_put_idle, held_end_item, held_stop}
 
 -- the room of the busy users of one scenario
-abbrev room_of : Scenario → ℕ
+abbrev pub room_of : Scenario → ℕ
 room_of s = length (busy_users s.share) * s.part.sample_room
 
 abbrev part_room : List Part → ℕ → ℕ

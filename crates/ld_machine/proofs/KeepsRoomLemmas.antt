@@ -1,9 +1,13 @@
--- A legal history keeps to the limit of entries, the Returns of all who are busy counted in.
+-- What each step keeps, each legal history has: so it keeps to the limit of entries, the Returns of all who are busy counted in.
 use Rattle.std.proofs.Common.{◌≡◌, ◌≤◌, ◌+◌, ◌∙◌, ℕ, Bool, true, false, cond, ◌&&◌, nat_lt, List, [], ◌∷◌, Option, None, Some, map, flat_map, length, arith, refl, ap, subst, inl, inr, slice_get}
 use Rattle.std.specs.Option.{option_map_or}
 use Rattle.std.proofs.lemmas.Grind.{common_steps}
+use Rattle.ld_base.specs.Stint.{StintView}
+use Rattle.ld_base.specs.Tally.{TallyView}
 use Rattle.ld_base.specs.declared.act.Act.{Act}
 use Rattle.ld_base.specs.declared.act.Act.TheVariants.{Control}
+use Rattle.ld_base.specs.declared.act.Outcome.{Outcome}
+use Rattle.ld_base.specs.declared.command.Command.{Command}
 use Rattle.ld_base.specs.declared.ask.Ask.{Ask}
 use Rattle.ld_base.specs.declared.ask.Ask.TheVariants as asks
 use Rattle.ld_base.specs.declared.entry.Entry.{Entry}
@@ -39,7 +43,7 @@ HasRoom plan state = state.entries + busy_count state ≤ plan.entry_limit
 
 -- ---- what isn't refused has room
 
-above_or_within : (limit wanted : ℕ) → nat_lt limit wanted ≡ false → wanted ≤ limit
+pub above_or_within : (limit wanted : ℕ) → nat_lt limit wanted ≡ false → wanted ≤ limit
 above_or_within limit wanted h = grind (arith, common_steps)
 
 not_refused : (plan : Plan) (state : State) (added busy : ℕ) → entries_refusal plan state added busy ≡ None → entries_with state added busy ≤ plan.entry_limit
@@ -54,13 +58,119 @@ neither : (one two : Option Reply) → or_else one two ≡ None → one ≡ None
 neither None two h = refl
 neither (Some reply) two h = absurd (cc)
 
-module _ (plan : Plan) (state : State) (thread t : ℕ) (well : WellHeld state) (room : HasRoom plan state) where
+-- ---- what each step of a legal history keeps
+
+-- a fact of states that is kept by each act with room, each Return that may be asked and each command with room
+pub record KeptBySteps (plan : Plan) (Keeps : State → Type 0) : Type 0 where
+  pub first : (state : State) (thread t : ℕ) (m : Move) → WellHeld state → Keeps state → In m (first_moves plan state t) →
+      room_refusal plan state m ≡ None → Keeps (performed plan state thread t (reply_to m) (acts_of m)).state
+  pub returned : (state : State) (thread t : ℕ) (stint : StintView) (outcome : Outcome) (tally : TallyView) → WellHeld state → Keeps state →
+      is_out state thread stint ≡ true → tally_fits plan.names (script_room plan stint.scenario) tally ≡ true →
+      Keeps (performed plan state thread t Noted (return_of stint outcome tally ∷ [])).state
+  pub commanded : (state : State) (thread t : ℕ) (command : Command) → WellHeld state → Keeps state → entries_refusal plan state 1 0 ≡ None →
+      Keeps (performed plan state thread t Noted (Control command ∷ [])).state
+
+module _ (plan : Plan) (Keeps : State → Type 0) (by_steps : KeptBySteps plan Keeps)
+    (state : State) (thread t : ℕ) (well : WellHeld state) (keeps : Keeps state) where
+  one_keeps : (r one : Result) → In r (one ∷ []) → Keeps one.state → Keeps r.state
+  one_keeps r one h kept = subst (λ (q : Result). Keeps q.state) (In-one r one h) kept
+
+  unrefused_keeps : (reply : Reply) (acts : List Act) (refusal : Option Reply) → (refusal ≡ None → Keeps (performed plan state thread t reply acts).state) →
+      Keeps (option_map_or (answered state) refusal (performed plan state thread t reply acts)).state
+  unrefused_keeps reply acts None kept = kept refl
+  unrefused_keeps reply acts (Some other) kept = keeps
+
+  open_keeps : (moves : List Move) → ((m : Move) → In m moves → In m (first_moves plan state t)) → (r : Result) →
+      In r (open_results plan state thread t moves) → Keeps r.state
+  open_keeps [] first r h = one_keeps r (answered state (Wait (wait_moment plan state t))) h keeps
+  open_keeps (m ∷ ms) first r h =
+      let found = In-map (move_result plan state thread t) r (m ∷ ms) h in
+      subst (λ (q : Result). Keeps q.state) found.2
+      (unrefused_keeps (reply_to found.0) (acts_of found.0) (room_refusal plan state found.0)
+      (by_steps.first state thread t found.0 well keeps (first found.0 found.1)))
+
+  step_keeps : (ask : Ask) (r : Result) → In r (results plan state thread ask t) → Keeps r.state
+  step_keeps asks.Act r h =
+      let P : Bool → Type 0 = λ b. In r (cond b (answered state Over ∷ []) (open_results plan state thread t (first_moves plan state t))) → Keeps r.state in
+      let kept : P (all_closed state) = elim (all_closed state) as P [
+        | true ↦ λ at. one_keeps r (answered state Over) at keeps
+        | false ↦ λ at. open_keeps (first_moves plan state t) (λ m there_m. there_m) r at
+      ] in kept h
+  step_keeps (asks.Return stint finished tally) r h =
+      let outcome = outcome_of finished t stint.until in
+      let noted = performed plan state thread t Noted (return_of stint outcome tally ∷ []) in
+      let P : Bool → Type 0 = λ b. (is_out state thread stint && tally_fits plan.names (script_room plan stint.scenario) tally) ≡ b →
+      In r (cond b (noted ∷ []) []) → Keeps r.state in
+      let kept : P (is_out state thread stint && tally_fits plan.names (script_room plan stint.scenario) tally) =
+      elim (is_out state thread stint && tally_fits plan.names (script_room plan stint.scenario) tally) as P [
+        | true ↦ λ e at.
+            let both = both_true (is_out state thread stint) _ e in
+            one_keeps r noted at (by_steps.returned state thread t stint outcome tally well keeps both.0 both.1)
+        | false ↦ λ e at. absurd (nothing_in at)
+      ] in kept refl h
+  step_keeps (asks.Check n) r h =
+      let P : Option Share → Type 0 = λ o. In r (option_map_or (λ (share : Share). answered state (check_reply share) ∷ []) o []) → Keeps r.state in
+      let kept : P (slice_get state.shares n) = elim (slice_get state.shares n) as P [
+        | None ↦ λ at. absurd (nothing_in at)
+        | Some share ↦ λ at. one_keeps r (answered state (check_reply share)) at keeps
+      ] in kept h
+  step_keeps asks.Look r h = one_keeps r (answered state (look_reply state)) h keeps
+  step_keeps (asks.Control command) r h =
+      let noted = option_map_or (answered state) (entries_refusal plan state 1 0) (performed plan state thread t Noted (Control command ∷ [])) in
+      let P : Bool → Type 0 = λ b. Keeps (cond b (answered state Denied) noted).state in
+      let kept : P (is_denied plan state command) = elim (is_denied plan state command) as P [
+        | true ↦ keeps
+        | false ↦ unrefused_keeps Noted (Control command ∷ []) (entries_refusal plan state 1 0) (by_steps.commanded state thread t command well keeps)
+      ] in one_keeps r _ h kept
+
+-- ---- whole histories
+
+-- what the entries of a step leave
+record Kept (Keeps : State → Type 0) (state : State) : Type 0 where
+  pub well : WellHeld state
+  pub keeps : Keeps state
+
+module _ (plan : Plan) (Keeps : State → Type 0) (by_steps : KeptBySteps plan Keeps) where
+  added_kept : (state : State) (one : Entry) (entries : List Entry) → Kept Keeps state →
+      (r : Result) × IsStep plan state one.thread (ask_for state one.act) one.reading r × (r.entries ≡ entries) → Kept Keeps (after_entries plan state entries)
+  added_kept state one entries kept r =
+      let ask = ask_for state one.act in
+      let left : r.0.state ≡ after_entries plan state entries =
+      results_leave plan state one.thread ask one.reading r.0 (In-of r.1) ∙ ap (λ es. after_entries plan state es) r.2 in
+      subst (λ s. Kept Keeps s) left (record {
+        well = step_well plan state one.thread ask one.reading r.0 r.1 kept.well;
+        keeps = step_keeps plan Keeps by_steps state one.thread one.reading kept.well kept.keeps ask r.0 (In-of r.1);
+      })
+
+  steps_keep : (history : List Entry) (state : State) → are_steps plan state history ≡ true → Kept Keeps state →
+      Kept Keeps (after_entries plan state history)
+  steps_keep [] state h kept = kept
+  steps_keep (one ∷ []) state h kept = added_kept state one (one ∷ []) kept (adds_tells plan state one (one ∷ []) h)
+  steps_keep (one ∷ two ∷ rest) state h kept =
+      elim (some_true (adds_one plan state one && are_steps plan (after_entry plan state one) (two ∷ rest)) _ h) [
+        | inl first ↦
+            let both = both_true (adds_one plan state one) _ first in
+            steps_keep (two ∷ rest) (after_entry plan state one) both.1 (added_kept state one (one ∷ []) kept (adds_tells plan state one (one ∷ []) both.0))
+        | inr second ↦
+            let both = both_true (adds_two plan state one two) _ second in
+            steps_keep rest (after_entry plan (after_entry plan state one) two) both.1
+            (added_kept state one (one ∷ two ∷ []) kept (adds_tells plan state one (one ∷ two ∷ []) both.0))
+      ]
+
+  -- what steps keep and the opening has, each legal history has
+  pub legal_keeps : (history : List Entry) → Keeps (opening plan) → IsLegal plan history → Keeps (state_after plan history)
+  legal_keeps history opened legal = (steps_keep history (opening plan) legal (record { well = opening_well plan; keeps = opened })).keeps
+
+-- ---- the room of entries
+
+module _ (plan : Plan) (state : State) (thread t : ℕ) where
   acts_counted : (reply : Reply) (acts : List Act) → (performed plan state thread t reply acts).state.entries ≡ state.entries + length acts
   acts_counted reply acts =
       entries_counted plan (entries_of (state.entries + 1) thread t acts) state ∙ ap (λ k. state.entries + k) (length-entries_of (state.entries + 1) thread t acts)
 
-  first_room : (m : Move) → In m (first_moves plan state t) → room_refusal plan state m ≡ None → HasRoom plan (performed plan state thread t (reply_to m) (acts_of m)).state
-  first_room m first unrefused =
+  first_room : (m : Move) → WellHeld state → In m (first_moves plan state t) → room_refusal plan state m ≡ None →
+      HasRoom plan (performed plan state thread t (reply_to m) (acts_of m)).state
+  first_room m well first unrefused =
       let act = (first_is plan state t m first).0 in
       let busy = busy_behind_act plan state thread t (reply_to m) well act.0 m act.1 in
       let entries = acts_counted (reply_to m) (acts_of m) in
@@ -68,95 +178,27 @@ module _ (plan : Plan) (state : State) (thread t : ℕ) (well : WellHeld state) 
       (neither (entries_refusal plan state (added_entries m) (made_busy m)) _ unrefused) in
       omega arith
 
-  -- ---- a step
+  return_room : (stint : StintView) (outcome : Outcome) (tally : TallyView) → WellHeld state → HasRoom plan state → is_out state thread stint ≡ true →
+      HasRoom plan (performed plan state thread t Noted (return_of stint outcome tally ∷ [])).state
+  return_room stint outcome tally well room out =
+      let fewer = busy_behind_return plan state thread t Noted stint outcome tally well out in
+      let entries = acts_counted Noted (return_of stint outcome tally ∷ []) in
+      omega arith
 
-  one_room : (r one : Result) → In r (one ∷ []) → HasRoom plan one.state → HasRoom plan r.state
-  one_room r one h keeps = subst (λ (q : Result). HasRoom plan q.state) (In-one r one h) keeps
+  command_room : (command : Command) → entries_refusal plan state 1 0 ≡ None →
+      HasRoom plan (performed plan state thread t Noted (Control command ∷ [])).state
+  command_room command unrefused =
+      let bound = not_refused plan state 1 0 unrefused in
+      let same = busy_command state command t in
+      let entries = acts_counted Noted (Control command ∷ []) in
+      omega arith
 
-  unrefused_room : (reply : Reply) (acts : List Act) (refusal : Option Reply) → (refusal ≡ None → HasRoom plan (performed plan state thread t reply acts).state) →
-      HasRoom plan (option_map_or (answered state) refusal (performed plan state thread t reply acts)).state
-  unrefused_room reply acts None keeps = keeps refl
-  unrefused_room reply acts (Some other) keeps = room
-
-  open_room : (moves : List Move) → ((m : Move) → In m moves → In m (first_moves plan state t)) → (r : Result) → In r (open_results plan state thread t moves) →
-      HasRoom plan r.state
-  open_room [] first r h = one_room r (answered state (Wait (wait_moment plan state t))) h room
-  open_room (m ∷ ms) first r h =
-      let found = In-map (move_result plan state thread t) r (m ∷ ms) h in
-      subst (λ (q : Result). HasRoom plan q.state) found.2
-      (unrefused_room (reply_to found.0) (acts_of found.0) (room_refusal plan state found.0) (first_room found.0 (first found.0 found.1)))
-
-  step_room : (ask : Ask) (r : Result) → In r (results plan state thread ask t) → HasRoom plan r.state
-  step_room asks.Act r h =
-      let P : Bool → Type 0 = λ b. In r (cond b (answered state Over ∷ []) (open_results plan state thread t (first_moves plan state t))) → HasRoom plan r.state in
-      let keeps : P (all_closed state) = elim (all_closed state) as P [
-        | true ↦ λ at. one_room r (answered state Over) at room
-        | false ↦ λ at. open_room (first_moves plan state t) (λ m there_m. there_m) r at
-      ] in keeps h
-  step_room (asks.Return stint finished tally) r h =
-      let outcome = outcome_of finished t stint.until in
-      let noted = performed plan state thread t Noted (return_of stint outcome tally ∷ []) in
-      let P : Bool → Type 0 = λ b. (is_out state thread stint && tally_fits plan.names (script_room plan stint.scenario) tally) ≡ b →
-      In r (cond b (noted ∷ []) []) → HasRoom plan r.state in
-      let keeps : P (is_out state thread stint && tally_fits plan.names (script_room plan stint.scenario) tally) =
-      elim (is_out state thread stint && tally_fits plan.names (script_room plan stint.scenario) tally) as P [
-        | true ↦ λ e at.
-            let out = (both_true (is_out state thread stint) _ e).0 in
-            let fewer = busy_behind_return plan state thread t Noted stint outcome tally well out in
-            let entries = acts_counted Noted (return_of stint outcome tally ∷ []) in
-            one_room r noted at (omega arith)
-        | false ↦ λ e at. absurd (nothing_in at)
-      ] in keeps refl h
-  step_room (asks.Check n) r h =
-      let P : Option Share → Type 0 = λ o. In r (option_map_or (λ (share : Share). answered state (check_reply share) ∷ []) o []) → HasRoom plan r.state in
-      let keeps : P (slice_get state.shares n) = elim (slice_get state.shares n) as P [
-        | None ↦ λ at. absurd (nothing_in at)
-        | Some share ↦ λ at. one_room r (answered state (check_reply share)) at room
-      ] in keeps h
-  step_room asks.Look r h = one_room r (answered state (look_reply state)) h room
-  step_room (asks.Control command) r h =
-      let noted = option_map_or (answered state) (entries_refusal plan state 1 0) (performed plan state thread t Noted (Control command ∷ [])) in
-      let P : Bool → Type 0 = λ b. HasRoom plan (cond b (answered state Denied) noted).state in
-      let keeps : P (is_denied plan state command) = elim (is_denied plan state command) as P [
-        | true ↦ room
-        | false ↦ unrefused_room Noted (Control command ∷ []) (entries_refusal plan state 1 0) (λ unrefused.
-            let bound = not_refused plan state 1 0 unrefused in
-            let same = busy_command state command t in
-            let entries = acts_counted Noted (Control command ∷ []) in
-            omega arith)
-      ] in one_room r _ h keeps
-
--- ---- whole histories
-
--- what the entries of a step leave
-record Kept (plan : Plan) (state : State) : Type 0 where
-  pub well : WellHeld state
-  pub room : HasRoom plan state
-
-added_kept : (plan : Plan) (state : State) (one : Entry) (entries : List Entry) → Kept plan state →
-    (r : Result) × IsStep plan state one.thread (ask_for state one.act) one.reading r × (r.entries ≡ entries) → Kept plan (after_entries plan state entries)
-added_kept plan state one entries kept r =
-    let ask = ask_for state one.act in
-    let left : r.0.state ≡ after_entries plan state entries =
-    results_leave plan state one.thread ask one.reading r.0 (In-of r.1) ∙ ap (λ es. after_entries plan state es) r.2 in
-    subst (λ s. Kept plan s) left (record {
-      well = step_well plan state one.thread ask one.reading r.0 r.1 kept.well;
-      room = step_room plan state one.thread one.reading kept.well kept.room ask r.0 (In-of r.1);
-    })
-
-steps_keep : (plan : Plan) (history : List Entry) (state : State) → are_steps plan state history ≡ true → Kept plan state → Kept plan (after_entries plan state history)
-steps_keep plan [] state h kept = kept
-steps_keep plan (one ∷ []) state h kept = added_kept plan state one (one ∷ []) kept (adds_tells plan state one (one ∷ []) h)
-steps_keep plan (one ∷ two ∷ rest) state h kept =
-    elim (some_true (adds_one plan state one && are_steps plan (after_entry plan state one) (two ∷ rest)) _ h) [
-      | inl first ↦
-          let both = both_true (adds_one plan state one) _ first in
-          steps_keep plan (two ∷ rest) (after_entry plan state one) both.1 (added_kept plan state one (one ∷ []) kept (adds_tells plan state one (one ∷ []) both.0))
-      | inr second ↦
-          let both = both_true (adds_two plan state one two) _ second in
-          steps_keep plan rest (after_entry plan (after_entry plan state one) two) both.1
-          (added_kept plan state one (one ∷ two ∷ []) kept (adds_tells plan state one (one ∷ two ∷ []) both.0))
-    ]
+steps_room : (plan : Plan) → KeptBySteps plan (HasRoom plan)
+steps_room plan = record {
+  first = λ state thread t m well room first unrefused. first_room plan state thread t m well first unrefused;
+  returned = λ state thread t stint outcome tally well room out fits. return_room plan state thread t stint outcome tally well room out;
+  commanded = λ state thread t command well room unrefused. command_room plan state thread t command unrefused;
+}
 
 nobody_busy : (parts : List Part) → length (flat_map busy_users (map (λ (part : Part). opening_share) parts)) ≡ 0
 nobody_busy [] = refl
@@ -167,7 +209,7 @@ opening_room plan = let none = nobody_busy plan.parts in omega arith
 
 pub legal_room : (plan : Plan) (history : List Entry) → IsLegal plan history → KeepsRoom plan history
 legal_room plan history legal =
-    let kept = steps_keep plan history (opening plan) legal (record { well = opening_well plan; room = opening_room plan }) in
-    let room : (state_after plan history).entries + busy_count (state_after plan history) ≤ plan.entry_limit = kept.room in
+    let room : (state_after plan history).entries + busy_count (state_after plan history) ≤ plan.entry_limit =
+    legal_keeps plan (HasRoom plan) (steps_room plan) history (opening_room plan) legal in
     let count : (state_after plan history).entries ≡ 0 + length history = entries_counted plan history (opening plan) in
     omega arith

@@ -39,6 +39,7 @@ pub mod PlayingLemmas
 pub mod PlayersLemmas
 pub mod NumberedLemmas
 pub mod KeepsRoomLemmas
+pub mod KeepsSamplesLemmas
 pub mod StartsLastLemmas
 pub mod WaitsOnLemmas
 pub mod SomeonePlaysLemmas

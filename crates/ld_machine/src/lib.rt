@@ -31,7 +31,7 @@ pub use laws::{
     fronts, goes_on, held_once, items_once, same_history, settled_items, settles,
     shares_after_acts, slots_once, starts_alternate, steps_leave, waits,
 };
-pub use playing::{busy_turns, keeps_room, numbered, players, players_made};
+pub use playing::{busy_turns, keeps_room, keeps_samples, numbered, players, players_made};
 pub use prefixes::{first_illegal_entry, fronts_are_prefixes};
 pub use steady::steady_between_candidates;
 pub use together::{

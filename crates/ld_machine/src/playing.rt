@@ -9,7 +9,7 @@ ghost use Rattle.ld_machine.specs.Step.{is_out};
 ghost use Rattle.ld_machine.specs.History.{IsLegal};
 ghost use Rattle.ld_machine.specs.Examples.{arrival_plan, arrival_grown};
 ghost use Rattle.ld_machine.specs.FurtherExamples.{full_plan, full_lines};
-ghost use Rattle.ld_machine.specs.Playing.{Play, play_of, stint_of_play, IsNumbered, KeepsRoom};
+ghost use Rattle.ld_machine.specs.Playing.{Play, play_of, stint_of_play, IsNumbered, KeepsRoom, KeepsSamples};
 
 /// What a user plays by its last turn is what it is busy with behind a legal history: its stint is out
 /// at the thread that started it, no other stint is out, and each busy user plays.
@@ -33,6 +33,11 @@ pub fn players_made()
 /// A legal history keeps to the plan's limit of entries, the Returns of all who are busy counted in.
 pub fn keeps_room()
     ensures { (plan : Plan) (history : List Entry) → IsLegal plan history → KeepsRoom plan history }
+{}
+
+/// The samples of a legal history keep to the plan's limit, room for those of all iterations under way counted in.
+pub fn keeps_samples()
+    ensures { (plan : Plan) (history : List Entry) → IsLegal plan history → KeepsSamples plan history }
 {}
 
 /// The entries of a legal history are numbered from 1, in their order.
