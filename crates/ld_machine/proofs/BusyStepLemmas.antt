@@ -82,7 +82,7 @@ number_by users n s t m (by_close e) = refl
 number_by users n s t m (by_arrival a answer due e) = refl
 
 module _ (plan : Plan) (state : State) (t n : ℕ) (m : Move) (act : IsActOf plan state t n m) where
-  the_source : Source (users_of plan state) n act.0 t m
+  pub the_source : Source (users_of plan state) n act.0 t m
   the_source = source_of (users_of plan state) n act.0 t m (In-of act.2)
 
   pub number_of_act : scenario_of m ≡ n

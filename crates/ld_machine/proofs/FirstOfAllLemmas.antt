@@ -174,7 +174,7 @@ module _ (plan : Plan) (state : State) (t : ℕ) where
   pub none_waits : (thread : ℕ) → NoneActs plan state t → all_closed state ≡ false → act_results plan state thread t ≡ answered state (Wait (wait_moment plan state t)) ∷ []
   none_waits thread none some_open = rw (some_open, nothing_first plan state t none) refl
 
-  performed_in : (thread : ℕ) (m : Move) (ms : List Move) → In m ms → In (move_result plan state thread t m) (open_results plan state thread t ms)
+  pub performed_in : (thread : ℕ) (m : Move) (ms : List Move) → In m ms → In (move_result plan state thread t m) (open_results plan state thread t ms)
   performed_in thread m [] h = absurd (nothing_in h)
   performed_in thread m (x ∷ xs) h = map-In (move_result plan state thread t) m h
 

@@ -42,7 +42,7 @@ some_first (x ∷ xs) other h =
 
 -- ---- of scenarios
 
-some_is : {A : Type 0} (a b : A) → Some a ≡ Some b → a ≡ b
+pub some_is : {A : Type 0} (a b : A) → Some a ≡ Some b → a ≡ b
 some_is a b h = cc
 
 module _ (plan : Plan) (state : State) (t : ℕ) where

@@ -31,6 +31,8 @@ pub mod BusyStepLemmas
 pub mod FreeStepLemmas
 pub mod ScenarioListLemmas
 pub mod BusyRoomLemmas
+pub mod OneOnUserLemmas
+pub mod PreferredLemmas
 pub mod SettlesShareLemmas
 pub mod SettlesItemLemmas
 pub mod SettlesReturnLemmas

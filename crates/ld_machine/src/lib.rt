@@ -12,6 +12,7 @@ mod laws;
 mod playing;
 mod prefixes;
 mod steady;
+mod preferred;
 mod together;
 mod valid_plans;
 mod virtual_time;
@@ -34,6 +35,8 @@ pub use laws::{
 pub use playing::{busy_turns, keeps_room, keeps_samples, numbered, players, players_made};
 pub use prefixes::{first_illegal_entry, fronts_are_prefixes};
 pub use steady::steady_between_candidates;
+pub use playing::{busy_turns, keeps_room, numbered, players, players_made};
+pub use preferred::{preferred_steps, steps_again};
 pub use together::{
     all_over, busy_behind_acts, busy_behind_steps, busy_in_share, busy_under_change, first_of_all,
     first_of_each, first_of_list, first_performed, first_step_by_step, free_behind_acts,
