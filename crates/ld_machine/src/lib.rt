@@ -10,9 +10,9 @@ mod further_examples;
 mod lateness;
 mod laws;
 mod playing;
+mod preferred;
 mod prefixes;
 mod steady;
-mod preferred;
 mod together;
 mod valid_plans;
 mod virtual_time;
@@ -33,10 +33,9 @@ pub use laws::{
     shares_after_acts, slots_once, starts_alternate, steps_leave, waits,
 };
 pub use playing::{busy_turns, keeps_room, keeps_samples, numbered, players, players_made};
+pub use preferred::{preferred_steps, steps_again};
 pub use prefixes::{first_illegal_entry, fronts_are_prefixes};
 pub use steady::steady_between_candidates;
-pub use playing::{busy_turns, keeps_room, numbered, players, players_made};
-pub use preferred::{preferred_steps, steps_again};
 pub use together::{
     all_over, busy_behind_acts, busy_behind_steps, busy_in_share, busy_under_change, first_of_all,
     first_of_each, first_of_list, first_performed, first_step_by_step, free_behind_acts,
