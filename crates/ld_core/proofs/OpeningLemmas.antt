@@ -12,7 +12,7 @@ use Rattle.ld_machine.specs.Settled.{is_distinct}
 use Rattle.ld_machine.specs.State.{Controls, State, opening, opening_controls, opening_share}
 use Rattle.ld_machine.specs.Effect.{state_after}
 use Rattle.ld_machine.proofs.HolderLemmas.{or_parts}
-use Rattle.ld_machine.proofs.ListLemmas.{both_true}
+use Rattle.ld_machine.proofs.ValidPlanLemmas.{rising_distinct}
 use Rattle.ld_plan.specs.Executor.{timetable_of, pre_of, max_of}
 use Rattle.ld_plan.specs.IsPlanOf.{part_of, sample_room}
 use Rattle.ld_plan.specs.PlanView.{PlanView}
@@ -20,7 +20,7 @@ use Rattle.ld_plan.specs.PlanView as plans
 use Rattle.ld_machine.specs.Requirement.{most_owned_users, owned_users}
 use Rattle.ld_plan.specs.Row.{row_of}
 use Rattle.ld_plan.specs.declared.row.Row.{Row}
-use Rattle.ld_plan.proofs.OneScenarioLemmas.{HasOne}
+use Rattle.ld_plan.proofs.OneScenarioLemmas.{HasOne, one_valid}
 use Rattle.ld_plan.proofs.PartLemmas.{pre_within}
 use Rattle.ld_plan.proofs.StripingLemmas.{share_rises}
 use Rattle.ld_stripe.specs.Striping.{owner_at}
@@ -37,64 +37,6 @@ use Rattle.ld_core.specs.declared.busy.Busy as playing
 not_true : (b : Bool) → not b ≡ true → b ≡ false
 not_true false h = refl
 not_true true h = absurd (cc)
-
--- ---- items of one schedule are distinct
-
-none_at : (p : ℕ → Bool) (a b n : ℕ) → a < b → list_any (λ k. k == a) (filter p (range_with_len b n)) ≡ false
-none_at p a b zero below = refl
-none_at p a b (suc n) below =
-    let later = none_at p a (b + 1) n (omega arith) in
-    let apart : (b == a) ≡ false = grind (arith, common_steps) in
-    let P : Bool → Type 0 = λ t. list_any (λ k. k == a) (cond t (b ∷ filter p (range_with_len (b + 1) n)) (filter p (range_with_len (b + 1) n))) ≡ false in
-    elim (p b) as P [ true ↦ rw apart later | false ↦ later ]
-
-distinct_kept : (p : ℕ → Bool) (a n : ℕ) → is_distinct (filter p (range_with_len a n)) ≡ true
-distinct_kept p a zero = refl
-distinct_kept p a (suc n) =
-    let later = distinct_kept p (a + 1) n in
-    let none = none_at p a (a + 1) n (omega arith) in
-    let P : Bool → Type 0 = λ t. is_distinct (cond t (a ∷ filter p (range_with_len (a + 1) n)) (filter p (range_with_len (a + 1) n))) ≡ true in
-    elim (p a) as P [ true ↦ rw (none, later) refl | false ↦ later ]
-
-distinct_planned : (timetable : Timetable) → is_distinct (planned timetable) ≡ true
-unfolding planned
-distinct_planned timetable = distinct_kept (λ k. nat_lt (moment_of timetable k) (end_of timetable)) 0 (planned_below timetable)
-
--- what is kept of distinct items is distinct
-kept_apart : (keep : ℕ × ℕ → Bool) (pairs : List (ℕ × ℕ)) (k : ℕ) → list_any (λ x. x == k) (map (λ (p : ℕ × ℕ). p.0) pairs) ≡ false →
-    list_any (λ x. x == k) (map (λ (p : ℕ × ℕ). p.0) (filter keep pairs)) ≡ false
-kept_apart keep [] k none = refl
-kept_apart keep (pair ∷ rest) k none =
-    let parts = or_parts (pair.0 == k) (list_any (λ x. x == k) (map (λ (p : ℕ × ℕ). p.0) rest)) none in
-    let later = kept_apart keep rest k parts.1 in
-    let P : Bool → Type 0 = λ b. list_any (λ x. x == k) (map (λ (p : ℕ × ℕ). p.0) (cond b (pair ∷ filter keep rest) (filter keep rest))) ≡ false in
-    elim (keep pair) as P [ true ↦ rw (parts.0, later) refl | false ↦ later ]
-
-kept_distinct : (keep : ℕ × ℕ → Bool) (pairs : List (ℕ × ℕ)) → is_distinct (map (λ (p : ℕ × ℕ). p.0) pairs) ≡ true → is_distinct (map (λ (p : ℕ × ℕ). p.0) (filter keep pairs)) ≡ true
-kept_distinct keep [] distinct = refl
-kept_distinct keep (pair ∷ rest) distinct =
-    let both = both_true (not (list_any (λ x. x == pair.0) (map (λ (p : ℕ × ℕ). p.0) rest))) (is_distinct (map (λ (p : ℕ × ℕ). p.0) rest)) distinct in
-    let later = kept_distinct keep rest both.1 in
-    let apart = kept_apart keep rest pair.0 (not_true (list_any (λ x. x == pair.0) (map (λ (p : ℕ × ℕ). p.0) rest)) both.0) in
-    let P : Bool → Type 0 = λ b. is_distinct (map (λ (p : ℕ × ℕ). p.0) (cond b (pair ∷ filter keep rest) (filter keep rest))) ≡ true in
-    elim (keep pair) as P [ true ↦ rw (apart, later) refl | false ↦ later ]
-
-firsts : (timetable : Timetable) (numbers : List ℕ) → map (λ (p : ℕ × ℕ). p.0) (map (arrival_at timetable) numbers) ≡ numbers
-firsts timetable [] = refl
-firsts timetable (k ∷ rest) = ap (λ (more : List ℕ). k ∷ more) (firsts timetable rest)
-
-items_of : (pairs : List (ℕ × ℕ)) → map (λ (a : Arrival). a.item) (map plans.arrival_of pairs) ≡ map (λ (p : ℕ × ℕ). p.0) pairs
-items_of [] = refl
-items_of (pair ∷ rest) = ap (λ (more : List ℕ). pair.0 ∷ more) (items_of rest)
-
--- the items that a position owns of a schedule are distinct
-pub distinct_items : (timetable : Timetable) (owners : List ℕ) (j : ℕ) →
-    is_distinct (map (λ (a : Arrival). a.item) (map plans.arrival_of (owned_pairs owners j (schedule timetable)))) ≡ true
-distinct_items timetable owners j =
-    let keep : ℕ × ℕ → Bool = λ pair. owner_at owners pair.0 == j in
-    subst (λ (items : List ℕ). is_distinct items ≡ true) (sym (items_of (owned_pairs owners j (schedule timetable))))
-    (kept_distinct keep (schedule timetable)
-    (subst (λ (items : List ℕ). is_distinct items ≡ true) (sym (firsts timetable (planned timetable))) (distinct_planned timetable)))
 
 -- ---- nobody is held
 
@@ -130,9 +72,7 @@ users_within seen one =
     (share_rises one.striping.owners seen.position (pre_of one.scenario.executor) (max_of one.scenario.executor) (pre_within one.scenario.executor one.in_range.executor))
 
 items_distinct : (seen : PlanView) (one : HasOne seen) → IsTrue (is_distinct (owned_items one.view.part.executor))
-items_distinct seen one =
-    subst (λ (e : Executor). is_distinct (owned_items e) ≡ true) (sym (executor_is seen one))
-    (distinct_items (timetable_of one.scenario.executor) one.part.items.owners seen.position)
+items_distinct seen one = rising_distinct _ (one_valid seen one).items
 
 -- its numbers are those of its row
 numbers_are : (part : Part) (pre most : ℕ) (arrivals : List Arrival) → part.executor ≡ ArrivalRate pre most arrivals →

@@ -27,9 +27,9 @@ counts_late n (Late scenario _) = scenario == n
 counts_late n _ = false
 
 -- the acts of a history, in order
-abbrev pub acts_in : List Entry → List Act
-acts_in history = map (λ (entry : Entry). entry.act) history
+abbrev pub acts_written : List Entry → List Act
+acts_written history = map (λ (entry : Entry). entry.act) history
 
 -- how many acts of a history are of a kind
 abbrev pub how_many : (Act → Bool) → List Entry → ℕ
-how_many kind history = count_by kind (acts_in history)
+how_many kind history = count_by kind (acts_written history)

@@ -62,15 +62,18 @@ has_one seen made =
 
 -- ---- it is valid
 
+pub one_valid : (seen : PlanView) (one : HasOne seen) → IsValidPart one.view.part
+one_valid seen one =
+    subst IsValidPart (sym one.part.part_is)
+    (part_valid (sample_room seen.options.scripts.scripts one.scenario.script) one.striping one.part.items seen.position one.scenario one.in_range)
+
 pub plan_valid : (seen : PlanView) → IsMade seen → IsValidPlan seen.plan
 plan_valid seen made =
     let one = has_one seen made in
-    let valid = subst IsValidPart (sym one.part.part_is)
-    (part_valid (sample_room seen.options.scripts.scripts one.scenario.script) one.striping one.part.items seen.position one.scenario one.in_range) in
     record {
       parts = λ part has.
           let only : Contains (one.view.part ∷ []) part = subst (λ (ps : List Part). Contains ps part) one.parts has in
-          All-contains IsValidPart (one.view.part ∷ []) part (All-cons IsValidPart one.view.part [] valid (All-nil IsValidPart)) only;
+          All-contains IsValidPart (one.view.part ∷ []) part (All-cons IsValidPart one.view.part [] (one_valid seen one) (All-nil IsValidPart)) only;
       users = made.is_plan.users;
     }
 

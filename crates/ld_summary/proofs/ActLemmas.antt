@@ -9,7 +9,8 @@ use Rattle.std.specs.Prelude.{Some, count_by, slice_get}
 use Rattle.ld_base.specs.History.{HistoryView}
 use Rattle.ld_base.specs.declared.act.Act.{Act}
 use Rattle.ld_base.specs.declared.entry.Entry.{Entry}
-use Rattle.ld_summary.specs.Counts.{AreAtMost, acts_in, acts_of, counts_of, is_done, is_drop, is_interrupted, is_late, is_start, plus}
+use Rattle.ld_machine.specs.Counted.{acts_written, counts_late, drops_item, ends_done, ends_interrupted, starts_item}
+use Rattle.ld_summary.specs.Counts.{AreAtMost, acts_in, acts_of, counts_of, plus}
 use Rattle.ld_summary.specs.declared.counts.Counts.{Counts}
 
 count_append : (p : Act → Bool) (xs ys : List Act) → count_by p (xs ++ ys) ≡ count_by p xs + count_by p ys
@@ -18,7 +19,7 @@ count_append p xs ys = sum_by-append (λ x. cond (p x) 1 0) xs ys
 plus_append : (n : ℕ) (xs ys : List Act) → counts_of n (xs ++ ys) ≡ plus (counts_of n xs) (counts_of n ys)
 plus_append n xs ys =
     cc
-    (count_append (is_start n) xs ys, count_append (is_done n) xs ys, count_append (is_interrupted n) xs ys, count_append (is_drop n) xs ys, count_append (is_late n) xs ys)
+    (count_append (starts_item n) xs ys, count_append (ends_done n) xs ys, count_append (ends_interrupted n) xs ys, count_append (drops_item n) xs ys, count_append (counts_late n) xs ys)
 
 plus_assoc : (a b c : Counts) → plus (plus a b) c ≡ plus a (plus b c)
 plus_assoc a b c =
@@ -31,10 +32,6 @@ take_next xs i x at =
     ∙ take-suc xs i x (slice_get_within xs i x at)
     ∙ ap (λ y. take i xs ++ y ∷ []) (get_or_from_slice_get xs i x x at)
 
--- the acts of entries
-abbrev pub acts : List Entry → List Act
-acts entries = map (λ (entry : Entry). entry.act) entries
-
 -- more acts behind some
 added : (n : ℕ) (start before now : Counts) (so_far more : List Act) → before ≡ plus start (counts_of n so_far) →
     now ≡ plus before (counts_of n more) → now ≡ plus start (counts_of n (so_far ++ more))
@@ -46,23 +43,23 @@ added n start before now so_far more before_is is =
 
 -- one entry more
 pub entry_added : (n : ℕ) (start before now : Counts) (entries : List Entry) (i : ℕ) (entry : Entry) → slice_get entries i ≡ Some entry →
-    before ≡ plus start (counts_of n (acts (take i entries))) → now ≡ plus before (counts_of n (entry.act ∷ [])) →
-    now ≡ plus start (counts_of n (acts (take (i + 1) entries)))
+    before ≡ plus start (counts_of n (acts_written (take i entries))) → now ≡ plus before (counts_of n (entry.act ∷ [])) →
+    now ≡ plus start (counts_of n (acts_written (take (i + 1) entries)))
 entry_added n start before now entries i entry at so_far is =
-    added n start before now (acts (take i entries)) (entry.act ∷ []) so_far is
+    added n start before now (acts_written (take i entries)) (entry.act ∷ []) so_far is
     ∙ ap (λ more. plus start (counts_of n more))
-    (sym (ap acts (take_next entries i entry at) ∙ map-append (λ (e : Entry). e.act) (take i entries) (entry ∷ [])))
+    (sym (ap acts_written (take_next entries i entry at) ∙ map-append (λ (e : Entry). e.act) (take i entries) (entry ∷ [])))
 
 -- acts raise no count by more than their number
 at_most_more : (n most : ℕ) (start : Counts) (more : List Act) → AreAtMost start most →
     AreAtMost (plus start (counts_of n more)) (most + length more)
 at_most_more n most start more b =
     record {
-      started = omega (arith, count_by-le-length (is_start n) more);
-      done = omega (arith, count_by-le-length (is_done n) more);
-      interrupted = omega (arith, count_by-le-length (is_interrupted n) more);
-      dropped = omega (arith, count_by-le-length (is_drop n) more);
-      late = omega (arith, count_by-le-length (is_late n) more);
+      started = omega (arith, count_by-le-length (starts_item n) more);
+      done = omega (arith, count_by-le-length (ends_done n) more);
+      interrupted = omega (arith, count_by-le-length (ends_interrupted n) more);
+      dropped = omega (arith, count_by-le-length (drops_item n) more);
+      late = omega (arith, count_by-le-length (counts_late n) more);
     }
 
 pub wider : (counts : Counts) (few more : ℕ) → few ≤ more → AreAtMost counts few → AreAtMost counts more
@@ -77,12 +74,12 @@ wider counts few more le b =
 
 -- the entries so far raise no count by more than their number
 pub within_entries : (n most above : ℕ) (start now : Counts) (entries : List Entry) (i : ℕ) → AreAtMost start most →
-    now ≡ plus start (counts_of n (acts (take i entries))) → i ≤ length entries → most + i ≤ above → AreAtMost now above
+    now ≡ plus start (counts_of n (acts_written (take i entries))) → i ≤ length entries → most + i ≤ above → AreAtMost now above
 within_entries n most above start now entries i b is inside le =
-    let count : length (acts (take i entries)) ≡ i = length-map (take i entries) (λ (e : Entry). e.act) ∙ length-take-le i entries inside in
+    let count : length (acts_written (take i entries)) ≡ i = length-map (take i entries) (λ (e : Entry). e.act) ∙ length-take-le i entries inside in
     subst (λ c. AreAtMost c above) (sym is)
-    (wider (plus start (counts_of n (acts (take i entries)))) (most + length (acts (take i entries))) above (omega arith)
-    (at_most_more n most start (acts (take i entries)) b))
+    (wider (plus start (counts_of n (acts_written (take i entries)))) (most + length (acts_written (take i entries))) above (omega arith)
+    (at_most_more n most start (acts_written (take i entries)) b))
 
 -- the counts so far: those of the first histories, of fewer than 2^32 entries each
 pub record AreSoFar (n : ℕ) (histories : List HistoryView) (i : ℕ) (counts : Counts) : Type 0 where
