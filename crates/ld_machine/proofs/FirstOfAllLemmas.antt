@@ -50,7 +50,7 @@ before_once a b ab = false_unless (is_before b a) (λ ba. true≢false (sym (bef
 pub In-of : {A : Type 0} {x : A} {xs : List A} → Contains xs x → In x xs
 In-of {A} {x} {xs} h = In-from_Contains x xs h.0 h.1 h.2
 
-enumerate-In : {A : Type 0} (k n : ℕ) (x : A) (xs : List A) → slice_get xs n ≡ Some x → In (k + n, x) (enumerate_from k xs)
+pub enumerate-In : {A : Type 0} (k n : ℕ) (x : A) (xs : List A) → slice_get xs n ≡ Some x → In (k + n, x) (enumerate_from k xs)
 enumerate-In k n x [] h = absurd (cc)
 enumerate-In k zero x (y ∷ ys) h =
     let same : y ≡ x = cc in

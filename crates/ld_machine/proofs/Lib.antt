@@ -46,3 +46,4 @@ pub mod StartsLastLemmas
 pub mod WaitsOnLemmas
 pub mod SomeonePlaysLemmas
 pub mod LatenessLemmas
+pub mod WhoIsBusyLemmas

@@ -172,7 +172,7 @@ held_as state n user q h =
           record { share = share; holder = holder.0; stands = e; held = holder.1; user_is = same_number holder.0.user user both.0; as_is = both.1 }
     ] in found refl h
 
-two_same : (user : ℕ) (g h : HeldUser) (a b : Share) (n m : ℕ) (shares : List Share) → times_held user shares ≤ 1 →
+pub two_same : (user : ℕ) (g h : HeldUser) (a b : Share) (n m : ℕ) (shares : List Share) → times_held user shares ≤ 1 →
     slice_get shares n ≡ Some a → slice_get shares m ≡ Some b → In g a.held → In h b.held → (g.user == user) ≡ true → (h.user == user) ≡ true →
     (n ≡ m) × (g ≡ h)
 two_same user g h a b n m [] once at_a at_b in_a in_b is_g is_h = absurd (cc)
@@ -212,7 +212,7 @@ idle_or_busy : (c : Condition) (thread item until : ℕ) → is_idle_condition c
 idle_or_busy Idle thread item until idle busy = cc
 idle_or_busy (Busy thread' item' until') thread item until idle busy = cc
 
-same_busy : (c : Condition) (thread item until thread' item' until' : ℕ) → is_busy_with c thread item until ≡ true → is_busy_with c thread' item' until' ≡ true →
+pub same_busy : (c : Condition) (thread item until thread' item' until' : ℕ) → is_busy_with c thread item until ≡ true → is_busy_with c thread' item' until' ≡ true →
     (thread ≡ thread') × (item ≡ item') × (until ≡ until')
 same_busy Idle thread item until thread' item' until' a b = absurd (cc)
 same_busy (Busy x y z) thread item until thread' item' until' a b =
@@ -243,7 +243,7 @@ put_held state n user p q condition f holds =
     subst (λ o. option_map_or (λ (share : Share). list_any (is_under user q) share.held) o false ≡ true) (sym stands)
     (any-from_In (is_under user q) (if_user user condition f.holder) there_now passes)
 
-busy_itself : (thread item until : ℕ) → is_busy_with (Busy thread item until) thread item until ≡ true
+pub busy_itself : (thread item until : ℕ) → is_busy_with (Busy thread item until) thread item until ≡ true
 busy_itself thread item until = rw (number_itself thread, number_itself item, number_itself until) refl
 
 -- ---- what a user plays, and what it is busy with
