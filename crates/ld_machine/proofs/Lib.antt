@@ -47,3 +47,4 @@ pub mod WaitsOnLemmas
 pub mod SomeonePlaysLemmas
 pub mod LatenessLemmas
 pub mod WhoIsBusyLemmas
+pub mod ThreadLemmas

@@ -201,14 +201,14 @@ pub user_passes : (one user : ℕ) → one ≡ user → (one == user) ≡ true
 user_passes one user same = subst (λ u. (u == user) ≡ true) (sym same) (number_itself user)
 
 -- a user that is held once is held in one scenario, under one condition
-one_holder : (state : State) (user n m : ℕ) (p q : Condition → Bool) → Holds state → HeldAs state n user p → HeldAs state m user q →
+pub one_holder : (state : State) (user n m : ℕ) (p q : Condition → Bool) → Holds state → HeldAs state n user p → HeldAs state m user q →
     (n ≡ m) × ((c : Condition) × (p c ≡ true) × (q c ≡ true))
 one_holder state user n m p q holds f g =
     let it = two_same user f.holder g.holder f.share g.share n m state.shares (holds.once user) f.stands g.stands f.held g.held
     (user_passes f.holder.user user f.user_is) (user_passes g.holder.user user g.user_is) in
     (it.0, (f.holder.condition, f.as_is, subst (λ (h : HeldUser). q h.condition ≡ true) (sym it.1) g.as_is))
 
-idle_or_busy : (c : Condition) (thread item until : ℕ) → is_idle_condition c ≡ true → is_busy_with c thread item until ≡ true → ⊥
+pub idle_or_busy : (c : Condition) (thread item until : ℕ) → is_idle_condition c ≡ true → is_busy_with c thread item until ≡ true → ⊥
 idle_or_busy Idle thread item until idle busy = cc
 idle_or_busy (Busy thread' item' until') thread item until idle busy = cc
 
@@ -348,7 +348,7 @@ module _ (plan : Plan) (state : State) (at thread t : ℕ) where
 -- ---- steps
 
 -- a user that was taken or grown is idle
-gained_idle : (plan : Plan) (state : State) (at thread t : ℕ) (act : Act) (n user slot : ℕ) (share : Share) → slice_get state.shares n ≡ Some share →
+pub gained_idle : (plan : Plan) (state : State) (at thread t : ℕ) (act : Act) (n user slot : ℕ) (share : Share) → slice_get state.shares n ≡ Some share →
     (Take n user slot ≡ act) ⊎ (Grow n user slot ≡ act) →
     HeldAs (after_entry plan state (record { turn = at; thread = thread; act = act; reading = t })) n user is_idle_condition
 gained_idle plan state at thread t act n user slot share stands gains =
@@ -376,24 +376,32 @@ gained_idle plan state at thread t act n user slot share stands gains =
 gain_finds : (state : State) (act : Act) (n user slot : ℕ) → (Take n user slot ≡ act) ⊎ (Grow n user slot ≡ act) → Finds state act
 gain_finds state act n user slot gains = elim gains [ inl e ↦ subst (Finds state) e tt | inr e ↦ subst (Finds state) e tt ]
 
-one_matches : (plan : Plan) (state : State) (one : Entry) (user : ℕ) (played : Option Play) → Holds state → adds_one plan state one ≡ true → Matches state user played →
+pub one_matches : (plan : Plan) (state : State) (one : Entry) (user : ℕ) (played : Option Play) → Holds state → adds_one plan state one ≡ true → Matches state user played →
     Matches (after_entry plan state one) user (play_behind user one.thread one.reading one.act played)
 one_matches plan state one user played holds h matches =
     act_matches plan state one.turn one.thread one.reading one.act user played holds (one_holds plan state one holds h) (one_finds plan state one h) matches
 
-two_match : (plan : Plan) (state : State) (one two : Entry) (user : ℕ) (played : Option Play) → Holds state → adds_two plan state one two ≡ true → Matches state user played →
+-- behind the first of two entries of a step
+pub first_matches : (plan : Plan) (state : State) (one two : Entry) (user : ℕ) (played : Option Play) → Holds state → adds_two plan state one two ≡ true → Matches state user played →
+    Holds (after_entry plan state one) × Matches (after_entry plan state one) user (play_behind user one.thread one.reading one.act played)
+first_matches plan state one two user played holds h matches =
+    let gains = wrote_gains plan state one.thread one.reading (one ∷ two ∷ []) holds (pair_wrote plan state one two h) one.act here in
+    let first = entry_holds plan state one holds gains in
+    let p = pair_of plan state one two h in (
+      first,
+      act_matches plan state one.turn one.thread one.reading one.act user played holds first (gain_finds state one.act p.scenario p.user p.slot p.gains) matches,
+    )
+
+pub two_match : (plan : Plan) (state : State) (one two : Entry) (user : ℕ) (played : Option Play) → Holds state → adds_two plan state one two ≡ true → Matches state user played →
     Matches (after_entry plan (after_entry plan state one) two) user
     (play_behind user two.thread two.reading two.act (play_behind user one.thread one.reading one.act played))
 two_match plan state one two user played holds h matches =
-    let gains = wrote_gains plan state one.thread one.reading (one ∷ two ∷ []) holds (pair_wrote plan state one two h) one.act here in
-    let first = entry_holds plan state one holds gains in
+    let between = first_matches plan state one two user played holds h matches in
     let p = pair_of plan state one two h in
     let idle = gained_idle plan state one.turn one.thread one.reading one.act p.scenario p.user p.slot p.share p.stands p.gains in
-    let before = act_matches plan state one.turn one.thread one.reading one.act user played holds first
-    (gain_finds state one.act p.scenario p.user p.slot p.gains) matches in
     act_matches plan (after_entry plan state one) two.turn two.thread two.reading two.act user
-    (play_behind user one.thread one.reading one.act played) first (two_hold plan state one two holds h)
-    (subst (λ act. Finds (after_entry plan state one) act) p.starts idle) before
+    (play_behind user one.thread one.reading one.act played) between.0 (two_hold plan state one two holds h)
+    (subst (λ act. Finds (after_entry plan state one) act) p.starts idle) between.1
 
 steps_match : (plan : Plan) (user : ℕ) (history : List Entry) (state : State) (played : Option Play) → are_steps plan state history ≡ true → Holds state → Matches state user played →
     Matches (after_entries plan state history) user (play_after user played history)
@@ -419,7 +427,7 @@ nobody_held p n [] = refl
 nobody_held p zero (part ∷ parts) = refl
 nobody_held p (suc n) (part ∷ parts) = nobody_held p n parts
 
-opening_matches : (plan : Plan) (user : ℕ) → Matches (opening plan) user None
+pub opening_matches : (plan : Plan) (user : ℕ) → Matches (opening plan) user None
 opening_matches plan user = record {
   out = λ play is. absurd (cc);
   playing = λ thread n item until is.

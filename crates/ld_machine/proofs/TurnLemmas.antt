@@ -314,7 +314,7 @@ out_held state thread n user item until h =
     number_same : (a b : ℕ) → (a == b) ≡ true → a ≡ b
     number_same a b e = grind (arith, common_steps)
 
-return_out : (plan : Plan) (state : State) (thread t n user item until : ℕ) (finished : Bool) (tally : TallyView) (entries : List Entry) →
+pub return_out : (plan : Plan) (state : State) (thread t n user item until : ℕ) (finished : Bool) (tally : TallyView) (entries : List Entry) →
     list_any (λ (r : Result). same_entries r.entries entries) (return_results plan state thread t (stint_of n user item until) finished tally) ≡ true →
     is_out state thread (stint_of n user item until) ≡ true
 return_out plan state thread t n user item until finished tally entries h =

@@ -47,8 +47,11 @@ under_busy : (n user : ℕ) (c : Condition) (thread item until : ℕ) → is_bus
 under_busy n user Idle thread item until e = absurd (cc)
 under_busy n user (Busy x y z) thread item until e =
     let same = same_busy (Busy x y z) x y z thread item until (busy_itself x y z) e in
-    ap (λ k. Some (k, stint_of n user y z)) same.0 ∙ ap (λ k. Some (thread, stint_of n user k z)) same.1 ∙ ap (λ k. Some (thread, stint_of n user item k)) same.2
+    ap (λ k. Some (k, stint_of n user y z)) same.0
+    ∙ ap (λ k. Some (thread, stint_of n user k z)) same.1
+    ∙ ap (λ k. Some (thread, stint_of n user item k)) same.2
 
+-- a busy user has one, and one under such a condition is busy
 busy_has : (n user : ℕ) (c : Condition) → is_busy_condition c ≡ true → (p : ℕ × StintView) × (stint_under n user c ≡ Some p)
 busy_has n user Idle e = absurd (cc)
 busy_has n user (Busy thread item until) e = ((thread, stint_of n user item until), refl)
@@ -68,6 +71,7 @@ record StintOf (state : State) (p : ℕ × StintView) : Type 0 where
   held : In holder share.held
   is : stint_under number holder.user holder.condition ≡ Some p
 
+-- what is out is the stint of a held user, and each stint of a held user is out
 stint_there : (state : State) (p : ℕ × StintView) → In p (stints_out state) → StintOf state p
 stint_there state p h =
     let found = In-flat_map (λ (q : ℕ × Share). stints_in q.0 q.1) p (enumerate_from 0 state.shares) h in
@@ -107,7 +111,8 @@ abbrev of_user : ℕ → ℕ × StintView → Bool
 of_user user p = p.1.user == user
 
 -- what a user is busy with is out
-busy_out : (state : State) (user thread : ℕ) (stint : StintView) → busy_of state user ≡ Some (thread, stint) → (is_out state thread stint ≡ true) × (stint.user ≡ user)
+busy_out : (state : State) (user thread : ℕ) (stint : StintView) → busy_of state user ≡ Some (thread, stint) →
+    (is_out state thread stint ≡ true) × (stint.user ≡ user)
 busy_out state user thread stint e =
     let found = found_in (of_user user) (thread, stint) (stints_out state) e in
     (stint_is_out state (thread, stint) (stint_there state (thread, stint) found.0), same_number stint.user user found.1)
@@ -127,7 +132,8 @@ one_stint state user p q once s r of_p of_q =
     cc
 
 -- so a stint that is out is what its user is busy with, where no user is held twice
-out_busy : (state : State) (thread : ℕ) (stint : StintView) → WellHeld state → is_out state thread stint ≡ true → busy_of state stint.user ≡ Some (thread, stint)
+out_busy : (state : State) (thread : ℕ) (stint : StintView) → WellHeld state → is_out state thread stint ≡ true →
+    busy_of state stint.user ≡ Some (thread, stint)
 out_busy state thread stint well out =
     let f = held_as state stint.scenario stint.user (λ c. is_busy_with c thread stint.item stint.until) out in
     let under : stint_under stint.scenario f.holder.user f.holder.condition ≡ Some (thread, stint) =

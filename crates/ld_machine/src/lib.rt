@@ -13,6 +13,7 @@ mod playing;
 mod preferred;
 mod prefixes;
 mod steady;
+mod threads;
 mod together;
 mod valid_plans;
 mod virtual_time;
@@ -36,6 +37,8 @@ pub use playing::{busy_turns, keeps_room, keeps_samples, numbered, players, play
 pub use preferred::{preferred_steps, steps_again};
 pub use prefixes::{first_illegal_entry, fronts_are_prefixes};
 pub use steady::steady_between_candidates;
+pub use playing::{busy_turns, keeps_room, numbered, players, players_made};
+pub use threads::{what_threads_may_ask, who_is_busy};
 pub use together::{
     all_over, busy_behind_acts, busy_behind_steps, busy_in_share, busy_under_change, first_of_all,
     first_of_each, first_of_list, first_performed, first_step_by_step, free_behind_acts,
