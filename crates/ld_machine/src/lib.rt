@@ -37,7 +37,6 @@ pub use playing::{busy_turns, keeps_room, keeps_samples, numbered, players, play
 pub use preferred::{preferred_steps, steps_again};
 pub use prefixes::{first_illegal_entry, fronts_are_prefixes};
 pub use steady::steady_between_candidates;
-pub use playing::{busy_turns, keeps_room, numbered, players, players_made};
 pub use threads::{what_threads_may_ask, who_is_busy};
 pub use together::{
     all_over, busy_behind_acts, busy_behind_steps, busy_in_share, busy_under_change, first_of_all,
