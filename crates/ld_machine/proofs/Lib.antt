@@ -13,6 +13,7 @@ pub mod ItemLemmas
 pub mod HolderLemmas
 pub mod TurnLemmas
 pub mod SlotLemmas
+pub mod SlotsOwnedLemmas
 pub mod ResultLemmas
 pub mod SettledLemmas
 pub mod LegalLemmas

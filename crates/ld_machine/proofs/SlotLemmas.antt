@@ -27,7 +27,7 @@ use Rattle.ld_machine.proofs.TurnLemmas.{in_share, acts_written, pair_of}
 
 -- ---- what changes of shares do to a slot
 
-slot-with_user : (slot : ℕ) (h : HeldUser) (held : List HeldUser) → times_slot slot (with_user h held) ≡ hit h.slot slot + times_slot slot held
+pub slot-with_user : (slot : ℕ) (h : HeldUser) (held : List HeldUser) → times_slot slot (with_user h held) ≡ hit h.slot slot + times_slot slot held
 slot-with_user slot h [] = refl
 slot-with_user slot h (g ∷ rest) =
     let P : Bool → Type 0 = λ b. times_slot slot (cond b (h ∷ g ∷ rest) (g ∷ with_user h rest)) ≡ hit h.slot slot + (hit g.slot slot + times_slot slot rest) in
@@ -36,7 +36,7 @@ slot-with_user slot h (g ∷ rest) =
       | false ↦ let later = slot-with_user slot h rest in rw later (omega arith)
     ]
 
-slot-if_user : (slot one : ℕ) (condition : Condition) (held : List HeldUser) → times_slot slot (map (if_user one condition) held) ≡ times_slot slot held
+pub slot-if_user : (slot one : ℕ) (condition : Condition) (held : List HeldUser) → times_slot slot (map (if_user one condition) held) ≡ times_slot slot held
 slot-if_user slot one condition [] = refl
 slot-if_user slot one condition (h ∷ rest) =
     let P : Bool → Type 0 = λ b. (if (cond b (record h { condition = condition }) h).slot == slot then 1 else 0) + times_slot slot (map (if_user one condition) rest) ≡ hit h.slot slot + times_slot slot rest in
@@ -45,7 +45,7 @@ slot-if_user slot one condition (h ∷ rest) =
       | false ↦ ap (λ n. hit h.slot slot + n) (slot-if_user slot one condition rest)
     ]
 
-slot-filter : (slot : ℕ) (p : HeldUser → Bool) (held : List HeldUser) → times_slot slot (filter p held) ≤ times_slot slot held
+pub slot-filter : (slot : ℕ) (p : HeldUser → Bool) (held : List HeldUser) → times_slot slot (filter p held) ≤ times_slot slot held
 slot-filter slot p [] = omega arith
 slot-filter slot p (h ∷ rest) =
     let later = slot-filter slot p rest in
@@ -53,7 +53,7 @@ slot-filter slot p (h ∷ rest) =
     elim (p h) as P [ true ↦ omega arith | false ↦ omega arith ]
 
 -- a change of one share that raises a count by so much at most
-in_share-most : (count : List HeldUser → ℕ) (more k n : ℕ) (change : Share → Share) (shares : List Share) →
+pub in_share-most : (count : List HeldUser → ℕ) (more k n : ℕ) (change : Share → Share) (shares : List Share) →
     ((share : Share) → count (change share).held ≤ count share.held + more) → in_share count n (change_at k change shares) ≤ in_share count n shares + more
 in_share-most count more k n change [] bound = omega arith
 in_share-most count more zero zero change (share ∷ rest) bound = bound share
@@ -62,7 +62,7 @@ in_share-most count more (suc k) zero change (share ∷ rest) bound = omega arit
 in_share-most count more (suc k) (suc n) change (share ∷ rest) bound = in_share-most count more k n change rest bound
 
 -- a change of another share leaves a count
-in_share-other : (count : List HeldUser → ℕ) (k n : ℕ) (change : Share → Share) (shares : List Share) → (k ≡ n → ⊥) →
+pub in_share-other : (count : List HeldUser → ℕ) (k n : ℕ) (change : Share → Share) (shares : List Share) → (k ≡ n → ⊥) →
     in_share count n (change_at k change shares) ≡ in_share count n shares
 in_share-other count k n change [] apart = refl
 in_share-other count zero zero change (share ∷ rest) apart = absurd (apart refl)
@@ -70,7 +70,7 @@ in_share-other count zero (suc n) change (share ∷ rest) apart = refl
 in_share-other count (suc k) zero change (share ∷ rest) apart = refl
 in_share-other count (suc k) (suc n) change (share ∷ rest) apart = in_share-other count k n change rest (λ e. apart (ap suc e))
 
-in_share-stopped : (count : List HeldUser → ℕ) (t n : ℕ) (shares : List Share) → in_share count n (map (stop_commanded_share t) shares) ≤ in_share count n shares
+pub in_share-stopped : (count : List HeldUser → ℕ) (t n : ℕ) (shares : List Share) → in_share count n (map (stop_commanded_share t) shares) ≤ in_share count n shares
 in_share-stopped count t n [] = omega arith
 in_share-stopped count t zero (share ∷ rest) =
     let P : Bool → Type 0 = λ b. count (cond b share (record share { level = StartsNothing t })).held ≤ count share.held in
@@ -82,7 +82,7 @@ held-ended count item part share =
     let P : Bool → Type 0 = λ b. count (cond b (record share { ended = share.ended ++ item ∷ [] }) share).held ≤ count share.held + 0 in
     elim (list_any (λ k. k == item) (owned_items part.executor)) as P [ true ↦ omega arith | false ↦ omega arith ]
 
-in_share-ended : (count : List HeldUser → ℕ) (plan : Plan) (n k item : ℕ) (state : State) → in_share count n (end_item_of plan k item state).shares ≤ in_share count n state.shares
+pub in_share-ended : (count : List HeldUser → ℕ) (plan : Plan) (n k item : ℕ) (state : State) → in_share count n (end_item_of plan k item state).shares ≤ in_share count n state.shares
 in_share-ended count plan n k item state =
     let P : Option Part → Type 0 = λ o. in_share count n (option_map_or (λ part. change_share state k (end_item part item)) o state).shares ≤ in_share count n state.shares in
     elim (slice_get plan.parts k) as P [
@@ -120,7 +120,7 @@ none_slot slot (g ∷ rest) h =
     rw (parts.0, later) (omega arith)
 
 -- an executor with arrivals has no slots of its own
-arrivals_no_slots : (executor : Executor) (p : Arrival → Bool) (a : Arrival) → find p (executor_arrivals executor) ≡ Some a → has_slots executor ≡ true → ⊥
+pub arrivals_no_slots : (executor : Executor) (p : Arrival → Bool) (a : Arrival) → find p (executor_arrivals executor) ≡ Some a → has_slots executor ≡ true → ⊥
 arrivals_no_slots (ArrivalRate _ _ _) p a h some = cc
 arrivals_no_slots (SharedIterations _ _) p a h some = cc
 arrivals_no_slots (PerVuIterations _ _) p a h some = cc
@@ -128,7 +128,7 @@ arrivals_no_slots (ConstantVus _) p a h some = cc
 arrivals_no_slots (RampingVus _ _) p a h some = cc
 arrivals_no_slots (ExternallyControlled _ _ _) p a h some = cc
 
-some_same : {A : Type 0} {x y : A} → Some x ≡ Some y → x ≡ y
+pub some_same : {A : Type 0} {x y : A} → Some x ≡ Some y → x ≡ y
 some_same e = cc
 
 -- the slot that an act takes or grows a user for in scenario n is held by nobody
@@ -141,7 +141,7 @@ TakesFree n state _ = Unit {0}
 
 module _ (plan : Plan) (part : Part) (n : ℕ) (part_is : slice_get plan.parts n ≡ Some part) (some : has_slots part.executor ≡ true) where
   -- a scenario of this number has slots
-  scenario_slots : (state : State) (k : ℕ) (s : Scenario) → slice_get (scenarios plan state) k ≡ Some s → k ≡ n → has_slots s.part.executor ≡ true
+  pub scenario_slots : (state : State) (k : ℕ) (s : Scenario) → slice_get (scenarios plan state) k ≡ Some s → k ≡ n → has_slots s.part.executor ≡ true
   scenario_slots state k s stands same =
       let of_it = stands_share state.controls plan.parts state.shares k s stands in
       let at_n : slice_get plan.parts n ≡ Some s.part = subst (λ m. slice_get plan.parts m ≡ Some s.part) same of_it.0 in
