@@ -37,7 +37,7 @@ first_in : (x : ℕ) (xs : List ℕ) → first_of xs ≡ Some x → In x xs
 first_in x [] h = absurd (cc)
 first_in x (y ∷ ys) h = let same : y ≡ x = cc in subst (λ z. In z (y ∷ ys)) same here
 
-least_fresh : (s : Scenario) (item : ℕ) → least_open_item s ≡ Some item → Fresh s item
+pub least_fresh : (s : Scenario) (item : ℕ) → least_open_item s ≡ Some item → Fresh s item
 least_fresh s item h =
     let kept = In-filter (is_open_item s) item (owned_items s.part.executor) (first_in item (open_items s) h) in
     record { opened = kept.1; owned = kept.0 }
@@ -228,7 +228,7 @@ end_item_keeps plan k item n x state h =
     ]
 
 -- what has ended stays so
-ended_stays : (plan : Plan) (state : State) (at thread t : ℕ) (act : Act) (n x : ℕ) → has (ended_in state.shares n) x ≡ true →
+pub ended_stays : (plan : Plan) (state : State) (at thread t : ℕ) (act : Act) (n x : ℕ) → has (ended_in state.shares n) x ≡ true →
     has (ended_in (after_entry plan state (record { turn = at; thread = thread; act = act; reading = t })).shares n) x ≡ true
 ended_stays plan state at thread t (Take k user slot) n x h = change_keeps _ (λ share y e. e) k n x state.shares h
 ended_stays plan state at thread t (Grow k user slot) n x h = change_keeps _ (λ share y e. e) k n x state.shares h
@@ -271,7 +271,7 @@ end_item_ends plan part n item state stands h owned = rw stands (end_ends part i
 -- ---- one entry
 
 -- an owned item has ended behind the entry that ends it
-ended_now : (plan : Plan) (part : Part) (state : State) (at thread t : ℕ) (act : Act) (n i : ℕ) → slice_get plan.parts n ≡ Some part →
+pub ended_now : (plan : Plan) (part : Part) (state : State) (at thread t : ℕ) (act : Act) (n i : ℕ) → slice_get plan.parts n ≡ Some part →
     is_there state.shares n ≡ true → has (owned_items part.executor) i ≡ true → item_of n act ≡ Some i →
     has (ended_in (after_entry plan state (record { turn = at; thread = thread; act = act; reading = t })).shares n) i ≡ true
 ended_now plan part state at thread t (Start k user item until) n i stands h owned is_it =

@@ -38,6 +38,7 @@ pub mod SettlesShareLemmas
 pub mod SettlesItemLemmas
 pub mod SettlesReturnLemmas
 pub mod SettlesLemmas
+pub mod UnsettledLemmas
 pub mod PlayingLemmas
 pub mod PlayersLemmas
 pub mod NumberedLemmas

@@ -11,7 +11,7 @@ use Rattle.ld_base.specs.declared.act.Act.TheVariants.{Take, Grow, Start, Drop, 
 use Rattle.ld_base.specs.declared.command.Command.TheVariants as commands
 use Rattle.ld_base.specs.declared.entry.Entry.{Entry}
 use Rattle.ld_machine.specs.Plan.{Part, Plan, owned_items}
-use Rattle.ld_machine.specs.State.{StartsNothing, Busy, Share, State, all_closed, opening, opening_share}
+use Rattle.ld_machine.specs.State.{StartsNothing, Busy, Share, State, opening, opening_share}
 use Rattle.ld_machine.specs.Commands.{stop_commanded_share}
 use Rattle.ld_machine.specs.Effect.{put_condition, change_at, change_share, end_item, end_item_of, after_entry, after_entries}
 use Rattle.ld_machine.specs.History.{adds_one, adds_two, are_steps}
@@ -20,7 +20,6 @@ use Rattle.ld_machine.specs.Settled.{item_of, items_in, has_items, is_distinct, 
 use Rattle.ld_machine.proofs.ListLemmas.{In, here, there, In-enumerate, both_true, some_true, some_not_none, number_itself}
 use Rattle.ld_machine.proofs.StepLemmas.{one_wrote, pair_wrote}
 use Rattle.ld_machine.proofs.ItemLemmas.{has, ended_in, wrote_new, unasked_no_item, gain_no_item, pair_gains, steps_once}
-use Rattle.ld_machine.proofs.SettlesShareLemmas.{AllRunning, owned_ended}
 
 -- ---- what has ended was ended by an act
 
@@ -153,7 +152,7 @@ history_stands plan n x history h =
 
 -- ---- an item that stands in a list without repetition stands in it once
 
-count_none : (x : ℕ) (items : List ℕ) → has items x ≡ false → count_by (λ item. item == x) items ≡ 0
+pub count_none : (x : ℕ) (items : List ℕ) → has items x ≡ false → count_by (λ item. item == x) items ≡ 0
 count_none x [] h = refl
 count_none x (y ∷ items) h = sum_by-cons (λ item. cond (item == x) 1 0) y items ∙ step (y == x) refl h (count_none x items)
   where
@@ -216,21 +215,21 @@ module _ (plan : Plan) (part : Part) (n : ℕ) (stands : slice_get plan.parts n 
             rw none (front_owned (item_of n two.act) (items_in n rest) (two_owned state one two both.0) later)
       ]
 
--- ---- each owned item once, and no other
+-- ---- each owned item once, and no other, where all of them have ended
 
-all_from : {A : Type 0} (p : A → Bool) (xs : List A) → ((x : A) → In x xs → p x ≡ true) → list_all p xs ≡ true
+pub all_from : {A : Type 0} (p : A → Bool) (xs : List A) → ((x : A) → In x xs → p x ≡ true) → list_all p xs ≡ true
 all_from p [] each = refl
 all_from p (x ∷ xs) each = rw (each x here) (all_from p xs (λ y at. each y (there at)))
 
 module _ (plan : Plan) (history : List Entry) (legal : are_steps plan (opening plan) history ≡ true)
-    (all : AllRunning plan.parts (after_entries plan (opening plan) history).shares)
-    (closed : all_closed (after_entries plan (opening plan) history) ≡ true) where
+    (all_ended : (n : ℕ) (part : Part) (item : ℕ) → slice_get plan.parts n ≡ Some part → In item (owned_items part.executor) →
+        has (ended_in (after_entries plan (opening plan) history).shares n) item ≡ true) where
   each_once : (n : ℕ) (part : Part) → slice_get plan.parts n ≡ Some part → has_items part.executor ≡ true →
       has_each_once (owned_items part.executor) (items_in n history) ≡ true
   each_once n part stands some =
       let distinct = (steps_once plan part n stands some history (opening plan) legal).1 in
       let once : (k : ℕ) → In k (owned_items part.executor) → (count_by (λ item. item == k) (items_in n history) == 1) ≡ true = λ k owned.
-      let ended = owned_ended plan.parts (after_entries plan (opening plan) history).shares n part k all closed stands owned in
+      let ended = all_ended n part k stands owned in
       rw (count_once k (items_in n history) distinct (history_stands plan n k history ended)) refl in
       rw (all_from (λ k. count_by (λ item. item == k) (items_in n history) == 1) (owned_items part.executor) once)
       (steps_owned plan part n stands some history (opening plan) legal)

@@ -7,7 +7,7 @@ use Rattle.ld_machine.specs.Effect.{state_after}
 use Rattle.ld_machine.specs.History.{IsLegal}
 use Rattle.ld_machine.specs.Settled.{IsSettled, nobody_held, all_returned}
 use Rattle.ld_machine.proofs.HolderLemmas.{opening_holds}
-use Rattle.ld_machine.proofs.SettlesShareLemmas.{history_running, nobody_there, nobody_times}
+use Rattle.ld_machine.proofs.SettlesShareLemmas.{history_running, nobody_there, nobody_times, owned_ended}
 use Rattle.ld_machine.proofs.SettlesItemLemmas.{parts_ended}
 use Rattle.ld_machine.proofs.SettlesReturnLemmas.{steps_returned}
 
@@ -19,4 +19,5 @@ is_settled_where_closed plan history legal unstopped closed =
     let nobody : nobody_held (state_after plan history) ≡ true = nobody_there plan.parts shares all closed in
     let returned : all_returned history ≡ true =
     steps_returned plan history (opening plan) legal (opening_holds plan) (λ user. nobody_times user plan.parts shares all closed) in
-    rw (closed, parts_ended plan history legal all closed, returned, nobody) refl
+    let ended = parts_ended plan history legal (λ n part item stands owned. owned_ended plan.parts shares n part item all closed stands owned) in
+    rw (closed, ended, returned, nobody) refl

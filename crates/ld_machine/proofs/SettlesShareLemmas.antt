@@ -111,7 +111,7 @@ end_of_running plan n item state all =
 -- ---- what an act needs
 
 -- the share isn't closed
-abbrev IsOpenAt : State → ℕ → Type 0
+abbrev pub IsOpenAt : State → ℕ → Type 0
 IsOpenAt state n = (share : Share) → slice_get state.shares n ≡ Some share → share.closed ≡ false
 
 -- the share holds nobody, and each owned item of its part has ended
@@ -155,7 +155,7 @@ act_running plan state at thread t (Control (commands.VusMax v)) all needs = all
 
 -- ---- what a scenario's cells say
 
-take_runs : (s : Scenario) (slot t : ℕ) → may_take s slot t ≡ true → runs s ≡ true
+pub take_runs : (s : Scenario) (slot t : ℕ) → may_take s slot t ≡ true → runs s ≡ true
 take_runs s slot t h =
     let P : Bool → Type 0 = λ b. runs s ≡ b → runs s ≡ true in
     let tested : P (runs s) = elim (runs s) as P [
@@ -177,7 +177,7 @@ no_stop (StartsNothing commanded) grace t run h = cc
 no_stop Halted grace t run h = cc
 
 -- where no item is open, each owned one has ended
-none_open : (s : Scenario) (item : ℕ) → has_open_item s ≡ false → In item (owned_items s.part.executor) → has s.share.ended item ≡ true
+pub none_open : (s : Scenario) (item : ℕ) → has_open_item s ≡ false → In item (owned_items s.part.executor) → has s.share.ended item ≡ true
 none_open s item none at =
     let P : Bool → Type 0 = λ b. is_open_item s item ≡ b → has s.share.ended item ≡ true in
     let tested : P (is_open_item s item) = elim (is_open_item s item) as P [
@@ -198,25 +198,26 @@ close_none_open s t run h =
       | inr none ↦ not-true (has_open_item s) (both_true (not (has_open_item s)) _ none).0
     ]
 
-no_length : (held : List HeldUser) → (length held == 0) ≡ true → held ≡ []
+pub no_length : (held : List HeldUser) → (length held == 0) ≡ true → held ≡ []
 no_length [] h = refl
 no_length (x ∷ rest) h = let long : suc (length rest) ≡ 0 = grind (arith, common_steps) in absurd (omega arith)
 
-module _ (plan : Plan) (state : State) (k : ℕ) (s : Scenario) (stands : slice_get (scenarios plan state) k ≡ Some s) (all : AllRunning plan.parts state.shares) where
-  its_share : (share : Share) → slice_get state.shares k ≡ Some share → share ≡ s.share
+module _ (plan : Plan) (state : State) (k : ℕ) (s : Scenario) (stands : slice_get (scenarios plan state) k ≡ Some s) where
+  pub its_share : (share : Share) → slice_get state.shares k ≡ Some share → share ≡ s.share
   its_share share at = same_Some _ _ (sym at ∙ (stands_share state.controls plan.parts state.shares k s stands).1)
 
   its_part : (part : Part) → slice_get plan.parts k ≡ Some part → part ≡ s.part
   its_part part is = same_Some _ _ (sym is ∙ (stands_share state.controls plan.parts state.shares k s stands).0)
 
+  pub open_at : runs s ≡ true → IsOpenAt state k
+  open_at run share at =
+      subst (λ (x : Share). x.closed ≡ false) (sym (its_share share at)) (not-true s.share.closed (both_true (is_open s) (level_runs s.share.level) run).0)
+
+module _ (plan : Plan) (state : State) (k : ℕ) (s : Scenario) (stands : slice_get (scenarios plan state) k ≡ Some s) (all : AllRunning plan.parts state.shares) where
   its_running : Running s.part s.share
   its_running =
       let of_it = stands_share state.controls plan.parts state.shares k s stands in
       running_at plan.parts state.shares k s.part s.share all of_it.0 of_it.1
-
-  open_at : runs s ≡ true → IsOpenAt state k
-  open_at run share at =
-      subst (λ (x : Share). x.closed ≡ false) (sym (its_share share at)) (not-true s.share.closed (both_true (is_open s) (level_runs s.share.level) run).0)
 
   over_at : (t : ℕ) → may_close s t ≡ true → IsOverAt plan state k
   over_at t h part share is at =
@@ -224,10 +225,10 @@ module _ (plan : Plan) (state : State) (k : ℕ) (s : Scenario) (stands : slice_
       let front = both_true (is_open s) (holds_nobody s) parts.0 in
       let run : runs s ≡ true = rw (front.0, its_running.level) refl in
       let none = close_none_open s t run parts.1 in (
-        subst (λ (x : Share). x.held ≡ []) (sym (its_share share at)) (no_length s.share.held front.1),
+        subst (λ (x : Share). x.held ≡ []) (sym (its_share plan state k s stands share at)) (no_length s.share.held front.1),
         λ item owned.
-            subst (λ (x : Share). has x.ended item ≡ true) (sym (its_share share at))
-            (none_open s item none (subst (λ (x : Part). In item (owned_items x.executor)) (its_part part is) owned)),
+            subst (λ (x : Share). has x.ended item ≡ true) (sym (its_share plan state k s stands share at))
+            (none_open s item none (subst (λ (x : Part). In item (owned_items x.executor)) (its_part plan state k s stands part is) owned)),
       )
 
   needs_by : (one act : Act) → one ≡ act → Needs plan state one → Needs plan state act
@@ -237,7 +238,7 @@ module _ (plan : Plan) (state : State) (k : ℕ) (s : Scenario) (stands : slice_
   move_needs : (t : ℕ) (move : Move) → Source (users_of plan state) k s t move → (act : Act) → In act (acts_of move) → Needs plan state act
   move_needs t move (by_stop e) act at = absurd (no_stop s.share.level s.part.grace t its_running.level (both_true (is_open s) _ e).1)
   move_needs t move (by_release u idle e) act at = needs_by (Release k u.user) act (In-one act _ at) tt
-  move_needs t move (by_take user slot free slots e) act at = needs_by (Take k user slot) act (In-one act _ at) (open_at (take_runs s slot t e))
+  move_needs t move (by_take user slot free slots e) act at = needs_by (Take k user slot) act (In-one act _ at) (open_at plan state k s stands (take_runs s slot t e))
   move_needs t move (by_start u item idle e) act at = needs_by (Start k u.user item (until_of s u.slot t)) act (In-one act _ at) tt
   move_needs t move (by_drop item e) act at = needs_by (Drop k item) act (In-one act _ at) tt
   move_needs t move (by_close e) act at = needs_by (Close k) act (In-one act _ at) (over_at t e)
@@ -246,12 +247,12 @@ module _ (plan : Plan) (state : State) (k : ℕ) (s : Scenario) (stands : slice_
   move_needs t move (by_arrival a (StartOn user) due e) act at = needs_by (Start k user a.item (hard_moment s.part)) act (In-one act _ at) tt
   move_needs t move (by_arrival a (GrowAndStart user slot) due e) act at =
       elim (in_two act _ _ at) [
-        | inl grown ↦ needs_by (Grow k user slot) act grown (open_at (due_runs s t a due))
+        | inl grown ↦ needs_by (Grow k user slot) act grown (open_at plan state k s stands (due_runs s t a due))
         | inr started ↦ needs_by (Start k user a.item (hard_moment s.part)) act started tt
       ]
   move_needs t move (by_arrival a (TakeAndStart user slot) due e) act at =
       elim (in_two act _ _ at) [
-        | inl taken ↦ needs_by (Take k user slot) act taken (open_at (due_runs s t a due))
+        | inl taken ↦ needs_by (Take k user slot) act taken (open_at plan state k s stands (due_runs s t a due))
         | inr started ↦ needs_by (Start k user a.item (hard_moment s.part)) act started tt
       ]
 

@@ -15,3 +15,10 @@ pub fn slots_owned()
         slice_get plan.parts n ≡ Some part → IsTrue (has_slots part.executor) → slice_get (state_after plan history).shares n ≡ Some share →
         Contains share.held h → Contains (owned_slots part.executor) h.slot }
 {}
+
+/// A legal history is settled exactly where nothing is unsettled behind it: every scenario is closed, and no
+/// item is open.
+pub fn unsettled_exactly()
+    ensures { (plan : Plan) (history : List Entry) → IsLegal plan history →
+        (unsettled plan (state_after plan history) ≡ None) ↔ IsSettled plan history }
+{}

@@ -20,7 +20,7 @@ mod valid_plans;
 mod virtual_time;
 mod wish_examples;
 
-pub use counted::{slots_owned};
+pub use counted::{slots_owned, unsettled_exactly};
 pub use examples::{
     changed_dropped_arrival, changed_dropped_iteration, changed_grown_arrival,
     changed_iteration_done, dropped_arrival, dropped_iteration, grown_arrival, iteration_done,
