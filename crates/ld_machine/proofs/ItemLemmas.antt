@@ -251,7 +251,7 @@ is_there [] n = false
 is_there (share ∷ rest) zero = true
 is_there (share ∷ rest) (suc n) = is_there rest n
 
-there_changed : (k n : ℕ) (change : Share → Share) (shares : List Share) → is_there (change_at k change shares) n ≡ is_there shares n
+pub there_changed : (k n : ℕ) (change : Share → Share) (shares : List Share) → is_there (change_at k change shares) n ≡ is_there shares n
 there_changed k n change [] = refl
 there_changed zero zero change (share ∷ rest) = refl
 there_changed zero (suc n) change (share ∷ rest) = refl

@@ -39,6 +39,7 @@ pub mod SettlesItemLemmas
 pub mod SettlesReturnLemmas
 pub mod SettlesLemmas
 pub mod UnsettledLemmas
+pub mod CountedLemmas
 pub mod PlayingLemmas
 pub mod PlayersLemmas
 pub mod NumberedLemmas

@@ -9,7 +9,7 @@ use Rattle.ld_base.specs.declared.entry.Entry.{Entry}
 use Rattle.ld_machine.specs.Effect.{state_after}
 use Rattle.ld_machine.specs.Plan.{Part, Plan, owned_items}
 use Rattle.ld_machine.specs.State.{all_closed}
-use Rattle.ld_machine.specs.Settled.{IsSettled, all_returned, has_items, items_ended, items_in, nobody_held}
+use Rattle.ld_machine.specs.Settled.{IsSettled, all_returned, has_items, has_each_once, items_ended, items_in, nobody_held}
 
 -- the parts of a settled history
 record SettledParts (plan : Plan) (history : List Entry) : Type 0 where
@@ -44,14 +44,20 @@ holds_where : (b c : Bool) → b ≡ true → (not b || c) ≡ true → c ≡ tr
 holds_where true c is holds = holds
 holds_where false c is holds = cc
 
+-- each owned item of a scenario with items stands in a settled history once, and no other
+pub settled_each : (plan : Plan) (history : List Entry) (n : ℕ) (part : Part) → IsSettled plan history →
+    slice_get plan.parts n ≡ Some part → IsTrue (has_items part.executor) → has_each_once (owned_items part.executor) (items_in n history) ≡ true
+settled_each plan history n part settled is items =
+    let ended : items_ended history n part ≡ true =
+    subst (λ k. items_ended history k part ≡ true) (let e : 0 + n ≡ n = omega arith in e)
+    (passes_at (items_ended history) plan.parts 0 n part (settled_parts plan history settled).items is) in
+    holds_where (has_items part.executor) _ items ended
+
 pub settled_item : (plan : Plan) (history : List Entry) (n : ℕ) (part : Part) (item : ℕ) → IsSettled plan history →
     slice_get plan.parts n ≡ Some part → IsTrue (has_items part.executor) → Contains (owned_items part.executor) item →
     count_by (λ k. k == item) (items_in n history) ≡ 1
 settled_item plan history n part item settled is items owned =
-    let ended : items_ended history n part ≡ true =
-    subst (λ k. items_ended history k part ≡ true) (let e : 0 + n ≡ n = omega arith in e)
-    (passes_at (items_ended history) plan.parts 0 n part (settled_parts plan history settled).items is) in
-    let once = holds_where (has_items part.executor) _ items ended in
+    let once = settled_each plan history n part settled is items in
     let each = (and_parts (list_all (λ k. count_by (λ i. i == k) (items_in n history) == 1) (owned_items part.executor)) _ once).0 in
     let passes = AllPass-from_list_all (λ k. count_by (λ i. i == k) (items_in n history) == 1) (owned_items part.executor) each in
     eqb-true _ 1 (All-contains (λ k. (count_by (λ i. i == k) (items_in n history) == 1) ≡ true) (owned_items part.executor) item passes owned)

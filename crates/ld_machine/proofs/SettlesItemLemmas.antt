@@ -36,7 +36,7 @@ changed_ended item change (suc k) (suc n) x (share ∷ rest) from h =
     elim (changed_ended item change k n x rest from h) [ inl before ↦ inl before | inr it ↦ inr (ap suc it.0, it.1) ]
 
 -- a change of one share that ends nothing
-same_ended : (change : Share → Share) (k n : ℕ) (shares : List Share) → ((share : Share) → (change share).ended ≡ share.ended) →
+pub same_ended : (change : Share → Share) (k n : ℕ) (shares : List Share) → ((share : Share) → (change share).ended ≡ share.ended) →
     ended_in (change_at k change shares) n ≡ ended_in shares n
 same_ended change k n [] same = refl
 same_ended change zero zero (share ∷ rest) same = same share
@@ -44,7 +44,7 @@ same_ended change zero (suc n) (share ∷ rest) same = refl
 same_ended change (suc k) zero (share ∷ rest) same = refl
 same_ended change (suc k) (suc n) (share ∷ rest) same = same_ended change k n rest same
 
-stop_ended : (t n : ℕ) (shares : List Share) → ended_in (map (stop_commanded_share t) shares) n ≡ ended_in shares n
+pub stop_ended : (t n : ℕ) (shares : List Share) → ended_in (map (stop_commanded_share t) shares) n ≡ ended_in shares n
 stop_ended t n [] = refl
 stop_ended t zero (share ∷ rest) =
     let P : Bool → Type 0 = λ b. (cond b share (record share { level = StartsNothing t })).ended ≡ share.ended in
@@ -136,7 +136,7 @@ ended_stands plan n x (one ∷ rest) state h =
       | inr later ↦ inr (has_later x (item_of n one.act) (items_in n rest) later)
     ]
 
-opening_ended : (n : ℕ) (parts : List Part) → ended_in (map (λ (part : Part). opening_share) parts) n ≡ []
+pub opening_ended : (n : ℕ) (parts : List Part) → ended_in (map (λ (part : Part). opening_share) parts) n ≡ []
 opening_ended n [] = refl
 opening_ended zero (part ∷ parts) = refl
 opening_ended (suc n) (part ∷ parts) = opening_ended n parts
@@ -200,7 +200,7 @@ module _ (plan : Plan) (part : Part) (n : ℕ) (stands : slice_get plan.parts n 
   front_owned None items owned later = later
   front_owned (Some i) items owned later = rw (owned i refl) later
 
-  steps_owned : (history : List Entry) (state : State) → are_steps plan state history ≡ true → all_owned (items_in n history) ≡ true
+  pub steps_owned : (history : List Entry) (state : State) → are_steps plan state history ≡ true → all_owned (items_in n history) ≡ true
   steps_owned [] state h = refl
   steps_owned (one ∷ []) state h = front_owned (item_of n one.act) [] (one_owned state one h) refl
   steps_owned (one ∷ two ∷ rest) state h =
@@ -217,13 +217,13 @@ module _ (plan : Plan) (part : Part) (n : ℕ) (stands : slice_get plan.parts n 
 
 -- ---- each owned item once, and no other, where all of them have ended
 
-pub all_from : {A : Type 0} (p : A → Bool) (xs : List A) → ((x : A) → In x xs → p x ≡ true) → list_all p xs ≡ true
+all_from : {A : Type 0} (p : A → Bool) (xs : List A) → ((x : A) → In x xs → p x ≡ true) → list_all p xs ≡ true
 all_from p [] each = refl
 all_from p (x ∷ xs) each = rw (each x here) (all_from p xs (λ y at. each y (there at)))
 
 module _ (plan : Plan) (history : List Entry) (legal : are_steps plan (opening plan) history ≡ true)
     (all_ended : (n : ℕ) (part : Part) (item : ℕ) → slice_get plan.parts n ≡ Some part → In item (owned_items part.executor) →
-        has (ended_in (after_entries plan (opening plan) history).shares n) item ≡ true) where
+    has (ended_in (after_entries plan (opening plan) history).shares n) item ≡ true) where
   each_once : (n : ℕ) (part : Part) → slice_get plan.parts n ≡ Some part → has_items part.executor ≡ true →
       has_each_once (owned_items part.executor) (items_in n history) ≡ true
   each_once n part stands some =

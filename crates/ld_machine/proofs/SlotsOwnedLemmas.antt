@@ -1,5 +1,5 @@
 -- A user that a scenario with slots holds has a slot that the instance owns.
-use Rattle.std.proofs.Common.{◌≡◌, ◌≤◌, ◌+◌, ◌==◌, ℕ, suc, Bool, true, false, not, cond, ◌&&◌, List, [], ◌∷◌, Some, map, arith, refl, sym, ap, ◌∙◌, subst, inl, inr, slice_get}
+use Rattle.std.proofs.Common.{◌≡◌, ◌≤◌, ◌==◌, ℕ, Bool, true, false, not, cond, ◌&&◌, List, [], ◌∷◌, Some, map, arith, refl, sym, ◌∙◌, subst, inl, inr, slice_get}
 use Rattle.std.proofs.lemmas.Bool.{true≢false}
 use Rattle.std.proofs.lemmas.Grind.{common_steps}
 use Rattle.ld_base.specs.declared.act.Act.{Act}
@@ -48,7 +48,7 @@ owned_to_take (SharedIterations users items) s some = absurd (cc)
 owned_to_take (ArrivalRate pre_allocated max_vus arrivals) s some = absurd (cc)
 
 -- the slot that an act takes or grows a user for in scenario n is one of these
-abbrev pub TakesOwned : List ℕ → ℕ → Act → Type 0
+abbrev TakesOwned : List ℕ → ℕ → Act → Type 0
 TakesOwned slots n (Take k _ slot) = k ≡ n → In slot slots
 TakesOwned slots n (Grow k _ slot) = k ≡ n → In slot slots
 TakesOwned slots n _ = Unit {0}
@@ -66,8 +66,8 @@ module _ (plan : Plan) (part : Part) (n : ℕ) (part_is : slice_get plan.parts n
       absurd (arrivals_no_slots s.part.executor (λ (x : Arrival). is_open_item s x.item) a (due_tells s t a due).0
       (scenario_slots plan part n part_is some state k s stands same))
 
-  take_owned : (state : State) (k : ℕ) (s : Scenario) (slot : ℕ) → slice_get (scenarios plan state) k ≡ Some s → In slot (slots_to_take s.part.executor s) →
-      k ≡ n → In slot owned
+  take_owned : (state : State) (k : ℕ) (s : Scenario) (slot : ℕ) → slice_get (scenarios plan state) k ≡ Some s →
+      In slot (slots_to_take s.part.executor s) → k ≡ n → In slot owned
   take_owned state k s slot stands at same =
       let of_it = stands_share state.controls plan.parts state.shares k s stands in
       let at_n : slice_get plan.parts n ≡ Some s.part = subst (λ m. slice_get plan.parts m ≡ Some s.part) same of_it.0 in
@@ -83,7 +83,8 @@ module _ (plan : Plan) (part : Part) (n : ℕ) (part_is : slice_get plan.parts n
   move_owned state k s t move stands (by_release u idle e) act at = subst (TakesOwned owned n) (In-one act (Release k u.user) at) tt
   move_owned state k s t move stands (by_take user slot free slots e) act at =
       subst (TakesOwned owned n) (In-one act (Take k user slot) at) (take_owned state k s slot stands slots)
-  move_owned state k s t move stands (by_start u item idle e) act at = subst (TakesOwned owned n) (In-one act (Start k u.user item (until_of s u.slot t)) at) tt
+  move_owned state k s t move stands (by_start u item idle e) act at =
+      subst (TakesOwned owned n) (In-one act (Start k u.user item (until_of s u.slot t)) at) tt
   move_owned state k s t move stands (by_drop item e) act at = subst (TakesOwned owned n) (In-one act (Drop k item) at) tt
   move_owned state k s t move stands (by_close e) act at = subst (TakesOwned owned n) (In-one act (Close k) at) tt
   move_owned state k s t move stands (by_arrival a CountLate due e) act at = subst (TakesOwned owned n) (In-one act (Late k a.item) at) tt
@@ -123,7 +124,7 @@ module _ (plan : Plan) (part : Part) (n : ℕ) (part_is : slice_get plan.parts n
       ] in takes refl
 
   -- no slot is held but owned ones
-  abbrev pub SlotsOwned : State → Type 0
+  abbrev SlotsOwned : State → Type 0
   SlotsOwned state = (slot : ℕ) → has owned slot ≡ false → in_share (times_slot slot) n state.shares ≡ 0
 
   hold_owned : (state : State) (k user taken : ℕ) → SlotsOwned state → (k ≡ n → In taken owned) →
@@ -182,7 +183,8 @@ module _ (plan : Plan) (part : Part) (n : ℕ) (part_is : slice_get plan.parts n
   one_kept : (state : State) (one : Entry) → SlotsOwned state → adds_one plan state one ≡ true → SlotsOwned (after_entry plan state one)
   one_kept state one kept h = entry_owned state one.turn one.thread one.reading one.act kept (one_owned state one h)
 
-  two_kept : (state : State) (one two : Entry) → SlotsOwned state → adds_two plan state one two ≡ true → SlotsOwned (after_entry plan (after_entry plan state one) two)
+  two_kept : (state : State) (one two : Entry) → SlotsOwned state → adds_two plan state one two ≡ true →
+      SlotsOwned (after_entry plan (after_entry plan state one) two)
   two_kept state one two kept h =
       let first = entry_owned state one.turn one.thread one.reading one.act kept
       (wrote_owned state one.thread one.reading (one ∷ two ∷ []) (pair_wrote plan state one two h) one.act here) in
@@ -191,7 +193,8 @@ module _ (plan : Plan) (part : Part) (n : ℕ) (part_is : slice_get plan.parts n
 
   -- ---- whole histories
 
-  steps_owned : (history : List Entry) (state : State) → are_steps plan state history ≡ true → SlotsOwned state → SlotsOwned (after_entries plan state history)
+  steps_owned : (history : List Entry) (state : State) → are_steps plan state history ≡ true → SlotsOwned state →
+      SlotsOwned (after_entries plan state history)
   steps_owned [] state h kept = kept
   steps_owned (one ∷ []) state h kept = one_kept state one kept h
   steps_owned (one ∷ two ∷ rest) state h kept =

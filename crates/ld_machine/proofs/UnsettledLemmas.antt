@@ -1,18 +1,17 @@
 -- A legal history is settled exactly where every scenario is closed and has no open item.
-use Rattle.std.proofs.Common.{◌≡◌, ◌+◌, ◌==◌, ◌<◌, ◌⊎◌, ℕ, zero, suc, Bool, true, false, not, cond, ◌&&◌, ◌||◌, List, [], ◌∷◌, Option, None, Some, ◌++◌, length, map, filter, find, arith, refl, sym, ap, ◌∙◌, subst, inl, inr, slice_get}
-use Rattle.std.specs.Prelude.{◌↔◌, count_by, is_some, nat_eq}
+use Rattle.std.proofs.Common.{◌≡◌, ◌+◌, ◌==◌, ◌<◌, ◌⊎◌, ℕ, zero, suc, Bool, true, false, not, cond, ◌&&◌, List, [], ◌∷◌, Option, None, Some, ◌++◌, length, map, filter, find, arith, refl, sym, ap, ◌∙◌, subst, inl, inr, slice_get}
+use Rattle.std.specs.Prelude.{◌↔◌, count_by, is_some}
 use Rattle.std.specs.List.{list_all, list_any, cons_option, enumerate_from}
 use Rattle.std.specs.Option.{option_map_or}
 use Rattle.std.proofs.lemmas.Bool.{true≢false, not-true, not-false}
-use Rattle.std.proofs.lemmas.Grind.{common_steps}
-use Rattle.std.proofs.lemmas.Option.{same_Some, slice_get_within, slice_get-get_or}
+use Rattle.std.proofs.lemmas.Option.{slice_get_within}
 use Rattle.ld_base.specs.declared.act.Act.{Act}
 use Rattle.ld_base.specs.declared.act.Act.TheVariants.{Take, Grow, Start, Drop, Late, Return, Release, Stop, Close, Control}
 use Rattle.ld_base.specs.declared.command.Command.TheVariants as commands
 use Rattle.ld_base.specs.declared.entry.Entry.{Entry}
 use Rattle.ld_machine.specs.Plan.{Executor, SharedIterations, PerVuIterations, ConstantVus, RampingVus, ArrivalRate, ExternallyControlled, Part, Plan, owned_items, hard_moment}
-use Rattle.ld_machine.specs.State.{StartsNothing, Halted, Condition, Idle, Busy, HeldUser, Share, State, Controls, opening, opening_share, all_closed, times_held}
-use Rattle.ld_machine.specs.Scenario.{Scenario, is_open, is_open_item, least_open_item, has_open_item, holds_nobody, may_close, until_of}
+use Rattle.ld_machine.specs.State.{StartsNothing, Halted, Idle, Busy, HeldUser, Share, State, Controls, opening, opening_share, all_closed, times_held}
+use Rattle.ld_machine.specs.Scenario.{Scenario, is_open, least_open_item, has_open_item, holds_nobody, until_of}
 use Rattle.ld_machine.specs.Moves.{CountLate, StartOn, GrowAndStart, TakeAndStart, DropArrival, Move, users_of, scenarios_with, scenarios}
 use Rattle.ld_machine.specs.Acts.{acts_of}
 use Rattle.ld_machine.specs.Commands.{stop_commanded_share}
@@ -20,13 +19,13 @@ use Rattle.ld_machine.specs.Effect.{if_user, hold, put_condition, let_go, change
 use Rattle.ld_machine.specs.History.{adds_one, adds_two, are_steps, IsLegal}
 use Rattle.ld_machine.specs.OnTime.{is_asked_act}
 use Rattle.ld_machine.specs.Settled.{item_of, items_in, has_items, all_returned, nobody_held, IsSettled, is_unsettled, unsettled}
-use Rattle.ld_machine.proofs.ListLemmas.{In, here, there, nothing_in, found_in, both_true, some_true, some_not_none, number_itself, any-from_In, in_two, In-one, In-enumerate, all_at, Contains-from_In}
+use Rattle.ld_machine.proofs.ListLemmas.{In, here, there, nothing_in, both_true, some_true, some_not_none, number_itself, any-from_In, in_two, In-one, In-enumerate, Contains-from_In}
 use Rattle.ld_machine.proofs.SourceLemmas.{Source, by_stop, by_release, by_take, by_arrival, by_start, by_drop, by_close, source_of}
 use Rattle.ld_machine.proofs.StepLemmas.{Wrote, first_enabled, one_wrote, pair_wrote}
-use Rattle.ld_machine.proofs.ItemLemmas.{has, Fresh, least_fresh, ended_in, ended_now, ended_stays, is_there, stands_share}
+use Rattle.ld_machine.proofs.ItemLemmas.{has, least_fresh, ended_in, ended_now, ended_stays, is_there, stands_share}
 use Rattle.ld_machine.proofs.HolderLemmas.{opening_holds, or_parts}
 use Rattle.ld_machine.proofs.TurnLemmas.{pair_of, acts_written}
-use Rattle.ld_machine.proofs.FirstOfAllLemmas.{enumerate-In, false_unless}
+use Rattle.ld_machine.proofs.FirstOfAllLemmas.{enumerate-In}
 use Rattle.ld_machine.proofs.BusyLemmas.{same_number, held_end_item, held_stop}
 use Rattle.ld_machine.proofs.ScenarioListLemmas.{stands_with, length-entries, length-opening}
 use Rattle.ld_machine.proofs.SettledLemmas.{settled_item}
@@ -37,7 +36,7 @@ use Rattle.ld_machine.proofs.SettlesReturnLemmas.{steps_returned}
 -- ---- a closed scenario holds nobody
 
 -- each closed share holds nobody
-abbrev pub Quiet : List Share → Type 0
+abbrev Quiet : List Share → Type 0
 Quiet shares = (k : ℕ) (share : Share) → slice_get shares k ≡ Some share → share.closed ≡ true → share.held ≡ []
 
 opening_quiet : (parts : List Part) → Quiet (map (λ (part : Part). opening_share) parts)
@@ -46,7 +45,8 @@ opening_quiet (part ∷ parts) zero share at closed = let same : opening_share �
 opening_quiet (part ∷ parts) (suc k) share at closed = opening_quiet parts k share at closed
 
 change_quiet : (n : ℕ) (change : Share → Share) (shares : List Share) →
-    ((share : Share) → slice_get shares n ≡ Some share → (share.closed ≡ true → share.held ≡ []) → (change share).closed ≡ true → (change share).held ≡ []) →
+    ((share : Share) → slice_get shares n ≡ Some share → (share.closed ≡ true → share.held ≡ []) →
+    (change share).closed ≡ true → (change share).held ≡ []) →
     Quiet shares → Quiet (change_at n change shares)
 change_quiet n change [] keeps quiet k share at closed = absurd (cc)
 change_quiet zero change (x ∷ rest) keeps quiet zero share at closed =
@@ -166,7 +166,8 @@ unasked_needs state (Return n user item outcome tally) unasked = tt
 unasked_needs state (Control command) unasked = tt
 unasked_needs state _ unasked = absurd (cc)
 
-one_quiet : (plan : Plan) (state : State) (one : Entry) → Quiet state.shares → adds_one plan state one ≡ true → Quiet (after_entry plan state one).shares
+one_quiet : (plan : Plan) (state : State) (one : Entry) → Quiet state.shares → adds_one plan state one ≡ true →
+    Quiet (after_entry plan state one).shares
 one_quiet plan state one quiet h =
     let P : Bool → Type 0 = λ b. is_asked_act one.act ≡ b → NeedsQuiet state one.act in
     let needs : P (is_asked_act one.act) = elim (is_asked_act one.act) as P [
@@ -257,14 +258,14 @@ module _ (plan : Plan) (state : State) where
   none_unsettled none =
       let found : find is_such (enumerate_from 0 (scenarios plan state)) ≡ None =
       find_nothing is_such (enumerate_from 0 (scenarios plan state)) (λ p at.
-          let place = (In-enumerate 0 p (scenarios plan state) at).1 in
-          none place.0 p.1 place.2) in
+      let place = (In-enumerate 0 p (scenarios plan state) at).1 in
+      none place.0 p.1 place.2) in
       rw found refl
 
 -- ---- where no scenario is unsettled
 
 -- a share of each part
-its_share_there : (parts : List Part) (shares : List Share) (n : ℕ) (part : Part) → length shares ≡ length parts → slice_get parts n ≡ Some part →
+pub its_share_there : (parts : List Part) (shares : List Share) (n : ℕ) (part : Part) → length shares ≡ length parts → slice_get parts n ≡ Some part →
     (share : Share) × (slice_get shares n ≡ Some share)
 its_share_there [] shares n part same at = absurd (cc)
 its_share_there (p ∷ parts) [] n part same at = absurd (omega arith)
@@ -272,7 +273,7 @@ its_share_there (p ∷ parts) (share ∷ shares) zero part same at = (share, ref
 its_share_there (p ∷ parts) (share ∷ shares) (suc n) part same at = its_share_there parts shares n part (omega arith) at
 
 -- as many shares as parts
-shares_there : (plan : Plan) (history : List Entry) → length (state_after plan history).shares ≡ length plan.parts
+pub shares_there : (plan : Plan) (history : List Entry) → length (state_after plan history).shares ≡ length plan.parts
 shares_there plan history = length-entries plan history (opening plan) ∙ length-opening plan.parts
 
 settled_parts : (s : Scenario) → is_unsettled s ≡ false → (s.share.closed ≡ true) × (has_open_item s ≡ false)
@@ -303,7 +304,8 @@ module _ (plan : Plan) (state : State) (same : length state.shares ≡ length pl
       let its_ended = (stands_share state.controls plan.parts state.shares n s stands).2 in
       subst (λ ended. has ended item ≡ true) (sym its_ended) (none_open s item (settled_parts s (none n s stands)).1 owned)
 
-settled_where_none : (plan : Plan) (history : List Entry) → IsLegal plan history → NoneUnsettled plan (state_after plan history) → IsSettled plan history
+settled_where_none : (plan : Plan) (history : List Entry) → IsLegal plan history → NoneUnsettled plan (state_after plan history) →
+    IsSettled plan history
 settled_where_none plan history legal none =
     let state = state_after plan history in
     let same = shares_there plan history in
@@ -317,14 +319,17 @@ settled_where_none plan history legal none =
 
 -- ---- where a history is settled
 
--- what an entry of a scenario with items ends has ended behind the history
-module _ (plan : Plan) (part : Part) (n item : ℕ) (stands : slice_get plan.parts n ≡ Some part) (owned : has (owned_items part.executor) item ≡ true) where
-  there_below : (shares : List Share) (k : ℕ) → k < length shares → is_there shares k ≡ true
-  there_below [] k below = absurd (omega arith)
-  there_below (share ∷ rest) zero below = refl
-  there_below (share ∷ rest) (suc k) below = there_below rest k (omega arith)
+-- a share stands at each place
+pub there_below : (shares : List Share) (k : ℕ) → k < length shares → is_there shares k ≡ true
+there_below [] k below = absurd (omega arith)
+there_below (share ∷ rest) zero below = refl
+there_below (share ∷ rest) (suc k) below = there_below rest k (omega arith)
 
-  ended_on : (history : List Entry) (state : State) → has (ended_in state.shares n) item ≡ true → has (ended_in (after_entries plan state history).shares n) item ≡ true
+-- what an entry of a scenario with items ends has ended behind the history
+module _ (plan : Plan) (part : Part) (n item : ℕ) (stands : slice_get plan.parts n ≡ Some part)
+    (owned : has (owned_items part.executor) item ≡ true) where
+  ended_on : (history : List Entry) (state : State) → has (ended_in state.shares n) item ≡ true →
+      has (ended_in (after_entries plan state history).shares n) item ≡ true
   ended_on [] state h = h
   ended_on (one ∷ rest) state h = ended_on rest (after_entry plan state one) (ended_stays plan state one.turn one.thread one.reading one.act n item h)
 
@@ -355,10 +360,11 @@ owned_has_items (ConstantVus slots) item at = absurd (nothing_in at)
 owned_has_items (RampingVus ramp_grace slots) item at = absurd (nothing_in at)
 owned_has_items (ExternallyControlled vus max_vus slots) item at = absurd (nothing_in at)
 
-closed_place : (shares : List Share) (n : ℕ) (share : Share) → list_all (λ (x : Share). x.closed) shares ≡ true → slice_get shares n ≡ Some share → share.closed ≡ true
-closed_place [] n share closed at = absurd (cc)
-closed_place (x ∷ rest) zero share closed at = let same : x ≡ share = cc in subst (λ (z : Share). z.closed ≡ true) same (both_true x.closed _ closed).0
-closed_place (x ∷ rest) (suc n) share closed at = closed_place rest n share (both_true x.closed _ closed).1 at
+-- an element at a place passes a test that all pass
+pub passes_place : {A : Type 0} (p : A → Bool) (xs : List A) (n : ℕ) (x : A) → list_all p xs ≡ true → slice_get xs n ≡ Some x → p x ≡ true
+passes_place p [] n x all at = absurd (cc)
+passes_place p (y ∷ ys) zero x all at = let same : y ≡ x = cc in subst (λ z. p z ≡ true) same (both_true (p y) _ all).0
+passes_place p (y ∷ ys) (suc n) x all at = passes_place p ys n x (both_true (p y) _ all).1 at
 
 -- an owned item of a settled history stands in it
 stands_once : (item : ℕ) (items : List ℕ) → count_by (λ k. k == item) items ≡ 1 → has items item ≡ true
@@ -380,7 +386,8 @@ module _ (plan : Plan) (history : List Entry) (settled : IsSettled plan history)
   no_open n s item stands least =
       let fresh = least_fresh s item least in
       let of_it = stands_share (state_after plan history).controls plan.parts (state_after plan history).shares n s stands in
-      let once = settled_item plan history n s.part item settled of_it.0 (owned_has_items s.part.executor item fresh.owned) (Contains-from_In item fresh.owned) in
+      let once = settled_item plan history n s.part item settled of_it.0
+      (owned_has_items s.part.executor item fresh.owned) (Contains-from_In item fresh.owned) in
       let owned = any-from_In (λ k. k == item) item fresh.owned (number_itself item) in
       let below = slice_get_within plan.parts n s.part of_it.0 in
       let same = length-opening plan.parts in
@@ -390,7 +397,7 @@ module _ (plan : Plan) (history : List Entry) (settled : IsSettled plan history)
   none_where_settled : NoneUnsettled plan (state_after plan history)
   none_where_settled n s stands =
       let of_it = stands_share (state_after plan history).controls plan.parts (state_after plan history).shares n s stands in
-      let closed = closed_place (state_after plan history).shares n s.share all_closed_there of_it.1 in
+      let closed = passes_place (λ (x : Share). x.closed) (state_after plan history).shares n s.share all_closed_there of_it.1 in
       let P : Option ℕ → Type 0 = λ o. least_open_item s ≡ o → is_some o ≡ false in
       let none : P (least_open_item s) = elim (least_open_item s) as P [ None ↦ λ e. refl | Some item ↦ λ e. absurd (no_open n s item stands e) ] in
       rw closed (none refl)

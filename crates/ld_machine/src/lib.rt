@@ -5,7 +5,7 @@
 //! the laws of the machine, and worked examples of it.
 #![tactic(auto)]
 
-mod counted;
+mod counts;
 mod examples;
 mod further_examples;
 mod lateness;
@@ -20,7 +20,7 @@ mod valid_plans;
 mod virtual_time;
 mod wish_examples;
 
-pub use counted::{slots_owned, unsettled_exactly};
+pub use counts::{counted, counted_when_settled, slots_owned, unsettled_exactly};
 pub use examples::{
     changed_dropped_arrival, changed_dropped_iteration, changed_grown_arrival,
     changed_iteration_done, dropped_arrival, dropped_iteration, grown_arrival, iteration_done,

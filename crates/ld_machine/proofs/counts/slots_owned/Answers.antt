@@ -1,11 +1,10 @@
-use Rattle.std.proofs.Common.{◌==◌, arith, subst}
-use Rattle.std.proofs.lemmas.Grind.{common_steps}
+use Rattle.std.proofs.Common.{◌==◌, subst}
 use Rattle.ld_machine.specs.Plan.{owned_slots}
 use Rattle.ld_machine.proofs.ListLemmas.{In, In-from_any, Contains-from_In}
 use Rattle.ld_machine.proofs.FirstOfAllLemmas.{In-of}
 use Rattle.ld_machine.proofs.BusyLemmas.{same_number}
 use Rattle.ld_machine.proofs.SlotsOwnedLemmas.{held_owned}
-use Rattle.ld_machine.proofs.counted.slots_owned.Goals as goal
+use Rattle.ld_machine.proofs.counts.slots_owned.Goals as goal
 
 pub returns : goal.returns
 returns c plan history n part share h legal part_is some stands held =
