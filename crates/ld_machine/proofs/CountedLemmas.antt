@@ -20,7 +20,7 @@ use Rattle.ld_machine.specs.Commands.{stop_commanded_share}
 use Rattle.ld_machine.specs.Effect.{hold, put_condition, let_go, change_at, change_share, end_item, end_item_of, after_entry, after_entries, state_after}
 use Rattle.ld_machine.specs.History.{adds_one, adds_two, are_steps, IsLegal}
 use Rattle.ld_machine.specs.Settled.{item_of, items_in, has_items, is_distinct, nobody_held, IsSettled}
-use Rattle.ld_machine.specs.Counted.{how_many, starts_item, ends_done, ends_interrupted, drops_item, counts_late, acts_in}
+use Rattle.ld_machine.specs.Counted.{how_many, starts_item, ends_done, ends_interrupted, drops_item, counts_late, acts_written}
 use Rattle.ld_machine.specs.Together.{HoldsOnce}
 use Rattle.ld_machine.proofs.ListLemmas.{In, here, there, In-filter, any-from_In, all_at, both_true, some_true, Contains-from_In}
 use Rattle.ld_machine.proofs.StepLemmas.{pair_wrote}
@@ -43,7 +43,7 @@ abbrev one_if : Bool → ℕ
 one_if test = cond test 1 0
 
 how_many-first : (kind : Act → Bool) (one : Entry) (rest : List Entry) → how_many kind (one ∷ rest) ≡ one_if (kind one.act) + how_many kind rest
-how_many-first kind one rest = sum_by-cons (λ act. one_if (kind act)) one.act (acts_in rest)
+how_many-first kind one rest = sum_by-cons (λ act. one_if (kind act)) one.act (acts_written rest)
 
 numbers_apart : (a b : ℕ) → (a == b) ≡ false → a ≡ b → ⊥
 numbers_apart a b e same = grind (arith, common_steps)

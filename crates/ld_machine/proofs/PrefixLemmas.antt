@@ -247,7 +247,7 @@ illegal_tells plan history turn h =
     cond b None (Some (length history)) ≡ Some turn → IsFirstIllegal plan history turn in
     let short : Q (is_legal plan history) = elim (is_legal plan history) as Q [
       | true ↦ λ e whole is. absurd (cc)
-      | false ↦ λ e whole is. inr (record { prefix = no_beyond_tells plan history whole; illegal = λ legal. cc; last = cc; })
+      | false ↦ λ e whole is. inr (record { prefix = no_beyond_tells plan history whole; illegal = λ legal. cc; last = cc })
     ] in
     let found : P (first_beyond plan history) = elim (first_beyond plan history) as P [
       | None ↦ λ e is. short refl e is

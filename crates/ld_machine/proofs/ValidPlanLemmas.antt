@@ -98,8 +98,8 @@ open_arrivals : (s : Scenario) (arrivals : List Arrival) →
 open_arrivals s [] = refl
 open_arrivals s (a ∷ rest) =
     let P : Bool → Type 0 = λ b.
-        map (λ (x : Arrival). x.item) (cond b (a ∷ filter (λ (x : Arrival). is_open_item s x.item) rest) (filter (λ (x : Arrival). is_open_item s x.item) rest))
-        ≡ cond b (a.item ∷ filter (is_open_item s) (map (λ (x : Arrival). x.item) rest)) (filter (is_open_item s) (map (λ (x : Arrival). x.item) rest))
+    map (λ (x : Arrival). x.item) (cond b (a ∷ filter (λ (x : Arrival). is_open_item s x.item) rest) (filter (λ (x : Arrival). is_open_item s x.item) rest))
+    ≡ cond b (a.item ∷ filter (is_open_item s) (map (λ (x : Arrival). x.item) rest)) (filter (is_open_item s) (map (λ (x : Arrival). x.item) rest))
     in
     let more = open_arrivals s rest in
     elim (is_open_item s a.item) as P [ true ↦ ap (λ items. a.item ∷ items) more | false ↦ more ]

@@ -37,8 +37,8 @@ owned_are timetable owners j [] = refl
 owned_are timetable owners j (k ∷ rest) =
     let kept = owned_pairs owners j (map (arrival_at timetable) rest) in
     let P : Bool → Type 0 = λ b.
-        map (λ (a : Arrival). a.item) (map arrival_of (cond b (arrival_at timetable k ∷ kept) kept))
-        ≡ cond b (k ∷ filter (λ n. owner_at owners n == j) rest) (filter (λ n. owner_at owners n == j) rest)
+    map (λ (a : Arrival). a.item) (map arrival_of (cond b (arrival_at timetable k ∷ kept) kept))
+    ≡ cond b (k ∷ filter (λ n. owner_at owners n == j) rest) (filter (λ n. owner_at owners n == j) rest)
     in
     let more = owned_are timetable owners j rest in
     elim (owner_at owners k == j) as P [ true ↦ ap (λ items. k ∷ items) more | false ↦ more ]

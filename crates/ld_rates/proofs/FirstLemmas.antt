@@ -280,7 +280,6 @@ module _ (part : Part) (pre most : ℕ) (planned : List Arrival) (share : Share)
         nothing = λ e. absurd (cc);
         preferred = λ other names stands. preferred_is (named_first other names stands);
       }
-
     where
       preferred_is : NamedFirst → Some user ≡ Some prefer
       preferred_is (named_release first) =
