@@ -16,7 +16,7 @@ use Rattle.ld_summary.specs.declared.counts.Counts.{Counts}
 count_append : (p : Act → Bool) (xs ys : List Act) → count_by p (xs ++ ys) ≡ count_by p xs + count_by p ys
 count_append p xs ys = sum_by-append (λ x. cond (p x) 1 0) xs ys
 
-plus_append : (n : ℕ) (xs ys : List Act) → counts_of n (xs ++ ys) ≡ plus (counts_of n xs) (counts_of n ys)
+pub plus_append : (n : ℕ) (xs ys : List Act) → counts_of n (xs ++ ys) ≡ plus (counts_of n xs) (counts_of n ys)
 plus_append n xs ys =
     cc
     (count_append (starts_item n) xs ys, count_append (ends_done n) xs ys, count_append (ends_interrupted n) xs ys, count_append (drops_item n) xs ys, count_append (counts_late n) xs ys)

@@ -3,3 +3,4 @@ mod ListedLemmas
 mod PlanTextLemmas
 mod PlannedLemmas
 mod ScenarioLemmas
+mod SettledLemmas
