@@ -74,13 +74,13 @@ has_part options sequence entries striping items n s seen sound striped rescaled
 abbrev HaveParts : Options → Striping → Striping → ℕ → Scenario → List PlanView → Type 0
 HaveParts options striping items n s plans = AllByRecursion (HasPart options striping items n s) plans
 
-have_parts : (options : Options) (sequence : List Frac) (entries : ℕ) (striping items : Striping) (n : ℕ) (s : Scenario) (plans : List PlanView) →
+have_parts : (options : Options) (sequence : List Frac) (striping items : Striping) (n : ℕ) (s : Scenario) (plans : List PlanView) →
     IsSound options sequence → IsSequenceStriping sequence striping → IsItemStriping striping s items → slice_get options.scenarios n ≡ Some s →
-    AllByRecursion (λ seen. (segment : Segment) × IsPlanOf options segment sequence entries seen) plans → HaveParts options striping items n s plans
-have_parts options sequence entries striping items n s [] sound striped rescaled there each = tt
-have_parts options sequence entries striping items n s (seen ∷ plans) sound striped rescaled there each = (
-  has_part options sequence entries striping items n s seen sound striped rescaled there each.0.0 each.0.1,
-  have_parts options sequence entries striping items n s plans sound striped rescaled there each.1,
+    AllByRecursion (λ seen. (segment : Segment) × (entries : ℕ) × IsPlanOf options segment sequence entries seen) plans → HaveParts options striping items n s plans
+have_parts options sequence striping items n s [] sound striped rescaled there each = tt
+have_parts options sequence striping items n s (seen ∷ plans) sound striped rescaled there each = (
+  has_part options sequence each.0.1 striping items n s seen sound striped rescaled there each.0.0 each.0.2,
+  have_parts options sequence striping items n s plans sound striped rescaled there each.1,
 )
 
 -- the arrivals of all
@@ -131,9 +131,9 @@ record Owned (options : Options) (sequence : List Frac) (plans : List PlanView) 
   pub items_spread : IsSpread items (length (segments_of sequence))
   pub have : HaveParts options striping items n s plans
 
-owned : (options : Options) (sequence : List Frac) (entries : ℕ) (plans : List PlanView) → IsSound options sequence → AreAllPlans options sequence entries plans →
+owned : (options : Options) (sequence : List Frac) (plans : List PlanView) → IsSound options sequence → AreAllPlans options sequence plans →
     (n : ℕ) (s : Scenario) → slice_get options.scenarios n ≡ Some s → Owned options sequence plans n s
-owned options sequence entries plans sound all n s there =
+owned options sequence plans sound all n s there =
     let striping = sequence_striping sequence sound.filled in
     let spread = sequence_spread sequence striping.0 sound.filled striping.1 in
     let items = striping_of (shares_at striping.0 (max_of s.executor)) in
@@ -143,14 +143,14 @@ owned options sequence entries plans sound all n s there =
       items = items.0;
       spread = spread;
       items_spread = rescaled_spread striping.0 items.0 (length (segments_of sequence)) (max_of s.executor) spread (some_users s.executor range.executor) items.1;
-      have = have_parts options sequence entries striping.0 items.0 n s plans sound striping.1 items.1 there all.each;
+      have = have_parts options sequence striping.0 items.0 n s plans sound striping.1 items.1 there all.each;
     }
 
-pub items_owned_once : (options : Options) (sequence : List Frac) (entries : ℕ) (plans : List PlanView) → IsSound options sequence →
-    AreAllPlans options sequence entries plans → (n : ℕ) (s : Scenario) → slice_get options.scenarios n ≡ Some s →
+pub items_owned_once : (options : Options) (sequence : List Frac) (plans : List PlanView) → IsSound options sequence →
+    AreAllPlans options sequence plans → (n : ℕ) (s : Scenario) → slice_get options.scenarios n ≡ Some s →
     IsPermutation (map arrival_of (schedule (timetable_of s.executor))) (flat_map (arrivals_at n) plans)
-items_owned_once options sequence entries plans sound all n s there =
-    let o = owned options sequence entries plans sound all n s there in
+items_owned_once options sequence plans sound all n s there =
+    let o = owned options sequence plans sound all n s there in
     let pairs = schedule (timetable_of s.executor) in
     let split = owned_whole o.items.owners (length (segments_of sequence)) (λ x. owner_inside o.items (length (segments_of sequence)) x o.items_spread) pairs in
     let placed = subst (λ places. IsPermutation pairs (flat_map (λ j. owned_pairs o.items.owners j pairs) places)) (sym all.positions) split in
@@ -158,21 +158,21 @@ items_owned_once options sequence entries plans sound all n s there =
     (IsPermutation-map arrival_of _ _ placed)
 
 -- the shares of all positions sum to the whole
-shares_whole : (options : Options) (sequence : List Frac) (entries : ℕ) (plans : List PlanView) (striping : Striping) (v : ℕ) → AreAllPlans options sequence entries plans →
+pub shares_whole : (options : Options) (sequence : List Frac) (plans : List PlanView) (striping : Striping) (v : ℕ) → AreAllPlans options sequence plans →
     IsSpread striping (length (segments_of sequence)) →
     sum (map (λ j. share_at striping.owners j v) (map (λ (seen : PlanView). seen.position) plans)) ≡ v
-shares_whole options sequence entries plans striping v all spread =
+shares_whole options sequence plans striping v all spread =
     ap (λ places. sum (map (λ j. share_at striping.owners j v) places)) (all.positions ∙ ap (range_with_len 0) (sym spread.positions))
     ∙ shares_sum striping.weights striping.owners spread.striping spread.some v
 
-pub users_owned_once : (options : Options) (sequence : List Frac) (entries : ℕ) (plans : List PlanView) → IsSound options sequence →
-    AreAllPlans options sequence entries plans → (n : ℕ) (s : Scenario) → slice_get options.scenarios n ≡ Some s → sum_by (users_at n) plans ≡ pre_of s.executor
-users_owned_once options sequence entries plans sound all n s there =
-    let o = owned options sequence entries plans sound all n s there in
-    all_users options o.striping o.items n s plans o.have ∙ shares_whole options sequence entries plans o.striping (pre_of s.executor) all o.spread
+pub users_owned_once : (options : Options) (sequence : List Frac) (plans : List PlanView) → IsSound options sequence →
+    AreAllPlans options sequence plans → (n : ℕ) (s : Scenario) → slice_get options.scenarios n ≡ Some s → sum_by (users_at n) plans ≡ pre_of s.executor
+users_owned_once options sequence plans sound all n s there =
+    let o = owned options sequence plans sound all n s there in
+    all_users options o.striping o.items n s plans o.have ∙ shares_whole options sequence plans o.striping (pre_of s.executor) all o.spread
 
-pub most_users_owned_once : (options : Options) (sequence : List Frac) (entries : ℕ) (plans : List PlanView) → IsSound options sequence →
-    AreAllPlans options sequence entries plans → (n : ℕ) (s : Scenario) → slice_get options.scenarios n ≡ Some s → sum_by (most_users_at n) plans ≡ max_of s.executor
-most_users_owned_once options sequence entries plans sound all n s there =
-    let o = owned options sequence entries plans sound all n s there in
-    all_most_users options o.striping o.items n s plans o.have ∙ shares_whole options sequence entries plans o.striping (max_of s.executor) all o.spread
+pub most_users_owned_once : (options : Options) (sequence : List Frac) (plans : List PlanView) → IsSound options sequence →
+    AreAllPlans options sequence plans → (n : ℕ) (s : Scenario) → slice_get options.scenarios n ≡ Some s → sum_by (most_users_at n) plans ≡ max_of s.executor
+most_users_owned_once options sequence plans sound all n s there =
+    let o = owned options sequence plans sound all n s there in
+    all_most_users options o.striping o.items n s plans o.have ∙ shares_whole options sequence plans o.striping (max_of s.executor) all o.spread

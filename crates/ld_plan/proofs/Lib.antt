@@ -8,4 +8,5 @@ pub mod ValidLemmas
 pub mod PlanLemmas
 pub mod RefusalLemmas
 pub mod AllPlansLemmas
+pub mod NeedLemmas
 pub mod OneScenarioLemmas

@@ -13,9 +13,9 @@ use Rattle.ld_plan.specs.PlanView.{PlanView}
 use Rattle.ld_machine.specs.Requirement.{most_owned_users, owned_users}
 
 -- these are the plans of all positions of the sequence, in order
-pub record AreAllPlans (options : Options) (sequence : List Frac) (entries : ℕ) (plans : List PlanView) : Type 0 where
+pub record AreAllPlans (options : Options) (sequence : List Frac) (plans : List PlanView) : Type 0 where
   pub positions : map (λ (seen : PlanView). seen.position) plans ≡ range_with_len 0 (length (segments_of sequence))
-  pub each : AllByRecursion (λ seen. (segment : Segment) × IsPlanOf options segment sequence entries seen) plans
+  pub each : AllByRecursion (λ seen. (segment : Segment) × (entries : ℕ) × IsPlanOf options segment sequence entries seen) plans
 
 -- the arrivals that a plan has of scenario n
 abbrev pub arrivals_at : ℕ → PlanView → List Arrival

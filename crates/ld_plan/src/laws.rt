@@ -6,6 +6,7 @@ ghost use Rattle.ld_segment.specs.Segments.{one_point, zero_point};
 ghost use Rattle.ld_segment.specs.declared.segment.Segment.{Segment};
 ghost use Rattle.ld_stripe.specs.Striping.{IsStripingOf, shares_at};
 ghost use Rattle.ld_arrival.specs.Schedule.{schedule};
+ghost use Rattle.ld_machine.specs.Requirement.{extra, need};
 ghost use Rattle.ld_options.specs.declared.options.Options.{Options};
 ghost use Rattle.ld_options.specs.declared.scenario.Scenario.{Scenario};
 ghost use Rattle.ld_plan.specs.Executor.{max_of, pre_of, timetable_of};
@@ -45,18 +46,29 @@ pub fn one_position()
 /// Each arrival of a scenario is owned by exactly one position: what all positions of a sequence own of
 /// it is the whole's schedule, each arrival once.
 pub fn items_owned_once()
-    ensures { (options : Options) (sequence : List Frac) (entries : ℕ) (plans : List PlanView) → IsSound options sequence →
-        AreAllPlans options sequence entries plans → (n : ℕ) (scenario : Scenario) → slice_get options.scenarios n ≡ Some scenario →
+    ensures { (options : Options) (sequence : List Frac) (plans : List PlanView) → IsSound options sequence →
+        AreAllPlans options sequence plans → (n : ℕ) (scenario : Scenario) → slice_get options.scenarios n ≡ Some scenario →
         IsPermutation (map arrival_of (schedule (timetable_of scenario.executor))) (flat_map (arrivals_at n) plans) }
 {}
 
 /// Each user of a scenario is owned by exactly one position: the users that all positions of a sequence
 /// have of it, and the most that they may have, sum to those of the whole.
 pub fn users_owned_once()
-    ensures pre { (options : Options) (sequence : List Frac) (entries : ℕ) (plans : List PlanView) → IsSound options sequence →
-        AreAllPlans options sequence entries plans → (n : ℕ) (scenario : Scenario) → slice_get options.scenarios n ≡ Some scenario →
+    ensures pre { (options : Options) (sequence : List Frac) (plans : List PlanView) → IsSound options sequence →
+        AreAllPlans options sequence plans → (n : ℕ) (scenario : Scenario) → slice_get options.scenarios n ≡ Some scenario →
         sum_by (users_at n) plans ≡ pre_of scenario.executor }
-    ensures max { (options : Options) (sequence : List Frac) (entries : ℕ) (plans : List PlanView) → IsSound options sequence →
-        AreAllPlans options sequence entries plans → (n : ℕ) (scenario : Scenario) → slice_get options.scenarios n ≡ Some scenario →
+    ensures max { (options : Options) (sequence : List Frac) (plans : List PlanView) → IsSound options sequence →
+        AreAllPlans options sequence plans → (n : ℕ) (scenario : Scenario) → slice_get options.scenarios n ≡ Some scenario →
         sum_by (most_users_at n) plans ≡ max_of scenario.executor }
+{}
+
+/// What all positions of a sequence need of users at a moment sums to what the whole test needs at it: those that
+/// they plan, and those that they may add.
+pub fn requirement_owned_once()
+    ensures need { (options : Options) (sequence : List Frac) (plans : List PlanView) (segment : Segment) (entries : ℕ) (whole : PlanView) →
+        IsSound options sequence → AreAllPlans options sequence plans → IsPlanOf options segment (zero_point ∷ one_point ∷ []) entries whole →
+        (t : ℕ) → sum_by (λ (seen : PlanView). need seen.plan.parts t) plans ≡ need whole.plan.parts t }
+    ensures extra { (options : Options) (sequence : List Frac) (plans : List PlanView) (segment : Segment) (entries : ℕ) (whole : PlanView) →
+        IsSound options sequence → AreAllPlans options sequence plans → IsPlanOf options segment (zero_point ∷ one_point ∷ []) entries whole →
+        (t : ℕ) → sum_by (λ (seen : PlanView). extra seen.plan.parts t) plans ≡ extra whole.plan.parts t }
 {}

@@ -13,7 +13,8 @@ mod users;
 
 pub use fault::PlanFault;
 pub use laws::{
-    accepted_or_refused, items_owned_once, one_plan, one_position, one_refusal, users_owned_once,
+    accepted_or_refused, items_owned_once, one_plan, one_position, one_refusal,
+    requirement_owned_once, users_owned_once,
 };
 pub use plan::Plan;
 pub use row::Row;
