@@ -158,7 +158,7 @@ owned_once : (number : Part → ℕ) (amount : Striping → ℕ → Scenario →
     (options : Options) (sequence : List Frac) (plans : List PlanView) (segment : Segment) (entries : ℕ) (whole : PlanView) →
     IsSound options sequence → AreAllPlans options sequence plans → IsPlanOf options segment (zero_point ∷ one_point ∷ []) entries whole →
     ((striping : Striping) → IsSpread striping (length (segments_of sequence)) → (s : Scenario) → IsScenarioInRange s →
-        sum_by (λ j. amount striping j s) (map (λ (seen : PlanView). seen.position) plans) ≡ total s) →
+    sum_by (λ j. amount striping j s) (map (λ (seen : PlanView). seen.position) plans) ≡ total s) →
     sum_by (λ (seen : PlanView). sum_by number seen.plan.parts) plans ≡ sum_by number whole.plan.parts
 owned_once number amount total by alone options sequence plans segment entries whole sound all is each =
     let found = sequence_striping sequence sound.filled in
@@ -216,8 +216,8 @@ need_owned_once options sequence plans segment entries whole sound all is t =
     (λ s. ap (λ n. cond (is_on t s) n 0) (share_of_whole (pre_of s.executor)))
     options sequence plans segment entries whole sound all is
     (λ striping spread s range.
-        on_sums (is_on t s) (λ j. share_at striping.owners j (pre_of s.executor)) (map (λ (seen : PlanView). seen.position) plans)
-        ∙ ap (λ n. cond (is_on t s) n 0) (all_shares options sequence plans striping (pre_of s.executor) all spread))
+    on_sums (is_on t s) (λ j. share_at striping.owners j (pre_of s.executor)) (map (λ (seen : PlanView). seen.position) plans)
+    ∙ ap (λ n. cond (is_on t s) n 0) (all_shares options sequence plans striping (pre_of s.executor) all spread))
 
 pub extra_owned_once : (options : Options) (sequence : List Frac) (plans : List PlanView) (segment : Segment) (entries : ℕ) (whole : PlanView) →
     IsSound options sequence → AreAllPlans options sequence plans → IsPlanOf options segment (zero_point ∷ one_point ∷ []) entries whole →
@@ -226,10 +226,10 @@ extra_owned_once options sequence plans segment entries whole sound all is t =
     owned_once (λ (part : Part). executor_extra part.executor part t) (added_at t) (λ (s : Scenario). cond (is_on t s) (max_of s.executor - pre_of s.executor) 0)
     (λ striping room items j s. refl)
     (λ s. ap (λ n. cond (is_on t s) n 0)
-        (let most = share_of_whole (max_of s.executor) in let planned = share_of_whole (pre_of s.executor) in omega arith))
+    (let most = share_of_whole (max_of s.executor) in let planned = share_of_whole (pre_of s.executor) in omega arith))
     options sequence plans segment entries whole sound all is
     (λ striping spread s range.
-        on_sums (is_on t s) (λ j. share_at striping.owners j (max_of s.executor) - share_at striping.owners j (pre_of s.executor))
-        (map (λ (seen : PlanView). seen.position) plans)
-        ∙ ap (λ n. cond (is_on t s) n 0)
-        (all_rests options sequence plans striping (pre_of s.executor) (max_of s.executor) (pre_within s.executor range.executor) all spread))
+    on_sums (is_on t s) (λ j. share_at striping.owners j (max_of s.executor) - share_at striping.owners j (pre_of s.executor))
+    (map (λ (seen : PlanView). seen.position) plans)
+    ∙ ap (λ n. cond (is_on t s) n 0)
+    (all_rests options sequence plans striping (pre_of s.executor) (max_of s.executor) (pre_within s.executor range.executor) all spread))
