@@ -76,7 +76,8 @@ HaveParts options striping items n s plans = AllByRecursion (HasPart options str
 
 have_parts : (options : Options) (sequence : List Frac) (striping items : Striping) (n : ℕ) (s : Scenario) (plans : List PlanView) →
     IsSound options sequence → IsSequenceStriping sequence striping → IsItemStriping striping s items → slice_get options.scenarios n ≡ Some s →
-    AllByRecursion (λ seen. (segment : Segment) × (entries : ℕ) × IsPlanOf options segment sequence entries seen) plans → HaveParts options striping items n s plans
+    AllByRecursion (λ seen. (segment : Segment) × (entries : ℕ) × IsPlanOf options segment sequence entries seen) plans →
+    HaveParts options striping items n s plans
 have_parts options sequence striping items n s [] sound striped rescaled there each = tt
 have_parts options sequence striping items n s (seen ∷ plans) sound striped rescaled there each = (
   has_part options sequence each.0.1 striping items n s seen sound striped rescaled there each.0.0 each.0.2,
