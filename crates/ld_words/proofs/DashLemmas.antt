@@ -54,7 +54,7 @@ dash_no_duration rest [] (inl are) = let some : 0 < 0 = are.some in absurd (omeg
 dash_no_duration rest (t ∷ ts) (inl are) = dash_no_term t.number t.unit (flat_map term_spelling ts) rest are.list.each.0.number are.list.spelled
 dash_no_duration rest terms (inr number) = dash_no_amount rest number.0
 
-dash_no_value : (kind : ValueKind) (rest : List ℕ) → IsValueOf kind (45 ∷ rest) → ⊥
+pub dash_no_value : (kind : ValueKind) (rest : List ℕ) → IsValueOf kind (45 ∷ rest) → ⊥
 dash_no_value kinds.Plain rest value = true≢false (sym value)
 dash_no_value kinds.Number rest value = dash_no_number rest value.0 value.1
 dash_no_value kinds.Count rest value = dash_no_number rest value.0 value.1.is

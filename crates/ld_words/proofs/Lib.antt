@@ -3,6 +3,7 @@ pub mod BareNameLemmas
 pub mod DashLemmas
 pub mod DefaultLemmas
 pub mod FormLemmas
+pub mod FormReadLemmas
 pub mod FormSyntaxLemmas
 pub mod ParsedLemmas
 pub mod RowsLemmas

@@ -18,7 +18,7 @@ mod weights;
 mod words;
 
 pub use fault::WordsFault;
-pub use laws::one_meaning;
+pub use laws::{form_of_words, one_meaning};
 pub use rate_test::rate_test_text;
 pub use weights::Weights;
 pub use words::{Words, read_words};

@@ -70,9 +70,9 @@ pub enum Words {
 /// Reads the words of a command line.
 ///
 /// Words that are no command are refused at the least place, counted from 0, whose word can't stand
-/// there behind the words before it; where the end comes too early, at the number of words. The first
-/// word tells the form; for `stripe` also whether some word begins with `--`, and for `rehearse` whether
-/// the word behind it does.
+/// there behind the words before it; where the end comes too early, at the number of words. The place is
+/// that of the form that the whole line picks: the first word tells the form; for `stripe` also whether
+/// some word begins with `--`, wherever it stands, and for `rehearse` whether the word behind it does.
 pub fn read_words(alloc: Global, words: &[String]) -> Result<Words, WordsFault>
     ensures asked { IfOk result (Asks (map string_bytes words.now)) }
     ensures refused { IfErr result (λ f. f ≢ WordsFault.Memory → IsRefused (map string_bytes words.now) f) }
