@@ -1,3 +1,4 @@
 pub mod DeliveryLemmas
+pub mod EndLemmas
 pub mod RunLemmas
 pub mod SayingLemmas

@@ -3,5 +3,7 @@
 
 mod delivery;
 mod desk;
+mod laws;
 
 pub use desk::{command, desk_command};
+pub use laws::ends_well;
