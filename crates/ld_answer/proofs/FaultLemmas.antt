@@ -49,5 +49,6 @@ pub plan_fault : (P : Refusal → Type 0) (f : PlanFault) → (f ≢ plans.Memor
 plan_fault P plans.NotInSequence holds other = holds (λ e. cc)
 plan_fault P (plans.PeriodTooLarge period) holds other = holds (λ e. cc)
 plan_fault P (plans.TooManyArrivals scenario count) holds other = holds (λ e. cc)
+plan_fault P (plans.TooManyUsers users) holds other = holds (λ e. cc)
 plan_fault P (plans.JournalTooSmall needed limit) holds other = holds (λ e. cc)
 plan_fault P plans.Memory holds other = absurd (other refl)

@@ -107,6 +107,7 @@ test_refused_status segment sequence test limit r refused = elim refused.refused
     plan_status_is plans.NotInSequence none = refl
     plan_status_is (plans.PeriodTooLarge period) none = refl
     plan_status_is (plans.TooManyArrivals scenario count) none = refl
+    plan_status_is (plans.TooManyUsers users) none = refl
     plan_status_is (plans.JournalTooSmall needed most) none = refl
     plan_status_is plans.Memory none = absurd none.refused
 

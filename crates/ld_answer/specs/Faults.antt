@@ -16,6 +16,7 @@ abbrev pub of_plan : PlanFault → Refusal
 of_plan plans.NotInSequence = Plan plans.NotInSequence
 of_plan (plans.PeriodTooLarge period) = Plan (plans.PeriodTooLarge period)
 of_plan (plans.TooManyArrivals scenario count) = Plan (plans.TooManyArrivals scenario count)
+of_plan (plans.TooManyUsers users) = Plan (plans.TooManyUsers users)
 of_plan (plans.JournalTooSmall needed limit) = Plan (plans.JournalTooSmall needed limit)
 of_plan plans.Memory = Memory
 

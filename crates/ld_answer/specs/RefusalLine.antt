@@ -50,6 +50,7 @@ plan_status plans.Memory = 9
 plan_status plans.NotInSequence = 5
 plan_status (plans.PeriodTooLarge period) = 5
 plan_status (plans.TooManyArrivals scenario count) = 5
+plan_status (plans.TooManyUsers users) = 5
 plan_status (plans.JournalTooSmall needed limit) = 5
 
 abbrev pub status_of : Refusal → ℕ
@@ -129,6 +130,7 @@ abbrev pub plan_line : PlanFault → List ℕ
 plan_line plans.NotInSequence = codes "error 15 NotInSequence\n"
 plan_line (plans.PeriodTooLarge period) = line_with (codes "error 16 PeriodTooLarge ") period
 plan_line (plans.TooManyArrivals scenario count) = line_with_two (codes "error 31 TooManyArrivals ") scenario count
+plan_line (plans.TooManyUsers users) = line_with (codes "error 80 TooManyUsers ") users
 plan_line (plans.JournalTooSmall needed limit) = line_with_two (codes "error 81 JournalTooSmall ") needed limit
 plan_line plans.Memory = memory_line
 

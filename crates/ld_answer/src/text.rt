@@ -103,6 +103,9 @@ pub fn plan_line(alloc: Global, fault: &PlanFault) -> Result<Vec<u8>, BaseFault>
                 *count,
             )
         }
+        PlanFault::TooManyUsers(users) => {
+            line_with(alloc, b"error 80 TooManyUsers ", *users as u64)
+        }
         PlanFault::JournalTooSmall { needed, limit } => {
             line_with_two(alloc, b"error 81 JournalTooSmall ", *needed, *limit as u64)
         }

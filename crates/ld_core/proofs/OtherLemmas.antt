@@ -1,8 +1,9 @@
--- The asks other than those for an act, where there is one scenario.
-use Rattle.std.proofs.Common.{◌≡◌, ◌≢◌, ◌<◌, ◌+◌, ◌==◌, ◌&&◌, ℕ, zero, suc, Bool, true, false, cond, List, [], ◌∷◌, ◌++◌, Option, None, Some, Contains, slice_get, length, IsTrue, arith, refl, ap, sym, subst, ◌∙◌}
-use Rattle.std.specs.List.{list_any}
+-- The asks other than those for an act.
+use Rattle.std.proofs.Common.{◌≡◌, ◌≢◌, ◌+◌, ℕ, zero, suc, Bool, true, false, cond, List, [], ◌∷◌, ◌++◌, Option, None, Some, Contains, slice_get, length, arith, refl, ap, sym, subst, ◌∙◌}
+use Rattle.std.specs.List.{list_all}
 use Rattle.std.specs.Option.{option_map_or}
 use Rattle.std.proofs.lemmas.Grind.{common_steps}
+use Rattle.std.proofs.lemmas.Option.{slice_get_within}
 use Rattle.ld_base.specs.Stint.{StintView}
 use Rattle.ld_base.specs.Tally.{TallyView}
 use Rattle.ld_base.specs.declared.act.Act.{Act}
@@ -15,26 +16,23 @@ use Rattle.ld_base.specs.declared.command.Command.TheVariants as commands
 use Rattle.ld_base.specs.declared.entry.Entry.{Entry}
 use Rattle.ld_base.specs.declared.reply.Reply.{Reply}
 use Rattle.ld_base.specs.declared.reply.Reply.TheVariants.{Alive, Denied, Go, Halt, Noted, Over}
-use Rattle.ld_machine.specs.Plan.{Part}
 use Rattle.ld_machine.specs.State as machine
 use Rattle.ld_machine.specs.Commands.{is_denied}
+use Rattle.ld_machine.specs.Moves.{scenarios}
 use Rattle.ld_machine.specs.Room.{entries_refusal}
-use Rattle.ld_machine.specs.Scenario.{Scenario, may_stop}
-use Rattle.ld_machine.specs.Step.{Result, answered, check_reply, is_busy_with, is_out, level_halts, outcome_of, performed, results, return_of}
-use Rattle.ld_machine.proofs.ListLemmas.{here, Contains-from_In}
-use Rattle.ld_rates.specs.RatesView.{number_of}
+use Rattle.ld_machine.specs.Scenario.{Scenario}
+use Rattle.ld_machine.specs.Step.{Result, answered, check_reply, level_halts, outcome_of, performed, results, return_of}
+use Rattle.ld_machine.proofs.FirstOfAllLemmas.{all_from, closed_over, each_closed, false_unless}
+use Rattle.ld_machine.proofs.ListLemmas.{here, both_true, Contains-from_In}
+use Rattle.ld_rates.specs.RatesView.{RatesView, number_of}
 use Rattle.ld_rates.specs.Shows as rates
 use Rattle.ld_core.specs.Changes.{IsReturn}
 use Rattle.ld_core.specs.Core.{IsCore, core_view}
 use Rattle.ld_core.specs.CoreView.{Adds, CoreView, IsAsked, plan_of, state_of}
-use Rattle.ld_core.specs.Firsts.{IsFirst, NoStop}
-use Rattle.ld_core.specs.Single.{IsSingle}
 use Rattle.ld_core.specs.declared.machine.Core.TheInside.{Inside}
 use Rattle.ld_core.proofs.HistoryLemmas.{entries_counted}
-use Rattle.ld_core.proofs.OneLemmas.{IsOne, closed_one, scenario_in, stop_first, to_scenario}
-use Rattle.ld_core.proofs.ShowsLemmas.{single_shown}
+use Rattle.ld_core.proofs.ShownLemmas.{kept_there, part_there, scenario_there, shown_there}
 use Rattle.ld_core.proofs.WaitLemmas.{none_external}
-use Rattle.ld_machine.specs.Moves.{StopScenario}
 
 nothing_more : (es : List Entry) → es ≡ es ++ []
 nothing_more es = grind (arith, common_steps)
@@ -71,38 +69,53 @@ noted_alone core new thread t ask act only adds =
 
 -- ---- closed, and halts
 
-closed_kept : (c : Inside) (is : IsCore c) → machine.all_closed (state_of (core_view c)) ≡ c.scenario.closed
-closed_kept c is =
-    let shown : c.scenario.closed ≡ is.shows.share.closed = rw is.shows.rates.kept refl in
-    closed_one c.plan.plan (state_of (core_view c)) is.shows.part is.shows.share (record { parts = is.shows.parts; shares = is.shows.shares }) ∙ sym shown
+abbrev is_closed : RatesView → Bool
+is_closed k = k.closed
 
-pub closed_shown : (c : Inside) → IsCore c → (now : CoreView) → core_view c ≡ now → (closed : Bool) → closed ≡ c.scenario.closed →
-    machine.all_closed (state_of now) ≡ closed
-closed_shown c is now view closed shown = ap (λ (v : CoreView). machine.all_closed (state_of v)) (sym view) ∙ closed_kept c is ∙ sym shown
+all_at : (xs : List RatesView) → list_all is_closed xs ≡ true → (n : ℕ) (k : RatesView) → slice_get xs n ≡ Some k → k.closed ≡ true
+all_at [] all n k at = absurd (cc)
+all_at (x ∷ xs) all zero k at = let both = both_true x.closed (list_all is_closed xs) all in let same : x ≡ k = cc in subst (λ (v : RatesView). v.closed ≡ true) same both.0
+all_at (x ∷ xs) all (suc n) k at = let both = both_true x.closed (list_all is_closed xs) all in all_at xs both.1 n k at
+
+at_all : (xs : List RatesView) → ((n : ℕ) (k : RatesView) → slice_get xs n ≡ Some k → k.closed ≡ true) → list_all is_closed xs ≡ true
+at_all [] each = refl
+at_all (x ∷ xs) each = rw (each 0 x refl, at_all xs (λ n k at. each (suc n) k at)) refl
+
+closed_same : (k : RatesView) (s : Scenario) → rates.Shows k s → k.closed ≡ s.share.closed
+closed_same k s shown = rw shown.kept refl
+
+closed_kept : (c : Inside) (is : IsCore c) → list_all is_closed c.scenarios.items ≡ machine.all_closed (state_of (core_view c))
+closed_kept c is =
+    let state = state_of (core_view c) in
+    let P : Bool → Type 0 = λ b. list_all is_closed c.scenarios.items ≡ b → b ≡ machine.all_closed state in
+    let either : P (list_all is_closed c.scenarios.items) = elim (list_all is_closed c.scenarios.items) as P [
+      | true ↦ λ all. sym (all_from state.shares (λ n share at.
+          let s = share_scenario n share at in
+          let k = kept_there is.shows n s.0 s.1 in
+          let closed = all_at c.scenarios.items all n k.0 k.1 in
+          ap (λ (x : machine.Share). x.closed) (sym s.2) ∙ sym (closed_same k.0 s.0 k.2) ∙ closed))
+      | false ↦ λ all. sym (false_unless (machine.all_closed state) (λ closed.
+          let every = at_all c.scenarios.items (λ n k at.
+          let s = shown_there is.shows n k at in
+          closed_same k s.0 s.2 ∙ each_closed state closed n s.0.share (part_there is.shows n s.0 s.1).1) in
+          absurd (cc)))
+    ] in either refl
+  where
+    share_scenario : (n : ℕ) (share : machine.Share) → slice_get (state_of (core_view c)).shares n ≡ Some share →
+        (s : Scenario) × (slice_get (scenarios c.plan.plan (state_of (core_view c))) n ≡ Some s) × (s.share ≡ share)
+    share_scenario n share at =
+        let within = slice_get_within (state_of (core_view c)).shares n share at in
+        let long = is.shows.count in
+        let s = scenario_there is.shows n (omega arith) in
+        let there = part_there is.shows n s.0 s.1 in
+        (s.0, s.1, let both : Some s.0.share ≡ Some share = sym there.1 ∙ at in cc)
+
+pub closed_shown : (c : Inside) → IsCore c → (now : CoreView) → core_view c ≡ now → (closed : Bool) → closed ≡ list_all (λ (k : RatesView). k.closed) c.scenarios.items →
+    closed ≡ machine.all_closed (state_of now)
+closed_shown c is now view closed shown = shown ∙ closed_kept c is ∙ ap (λ (v : CoreView). machine.all_closed (state_of v)) view
 
 pub over : (core : CoreView) (thread t : ℕ) → machine.all_closed (state_of core) ≡ true → IsAsked core core thread asks.Act t Over
-over core thread t closed = answered_alone core thread t asks.Act Over (rw closed refl)
-
-pub stop_is_first : (c : Inside) (is : IsCore c) (now : CoreView) → core_view c ≡ now → (t : ℕ) → machine.all_closed (state_of now) ≡ false →
-    ((s : Scenario) → rates.Shows c.scenario s → true ≡ may_stop s t) → IsFirst now t (StopScenario 0)
-stop_is_first c is now view t goes_on may =
-    let core = core_view c in
-    let one : IsOne (plan_of core) (state_of core) is.shows.part is.shows.share = record { parts = is.shows.parts; shares = is.shows.shares } in
-    let s = scenario_in (state_of core) is.shows.part is.shows.share in
-    let first = stop_first (plan_of core) (state_of core) is.shows.part is.shows.share one t (sym (may s is.shows.rates)) in
-    let P : CoreView → Type 0 = λ v. machine.all_closed (state_of v) ≡ false → IsFirst v t (StopScenario 0) in
-    let inside : P core = λ goes. record { goes_on = goes; first = first } in
-    subst P view inside goes_on
-
-pub no_stop_shown : (c : Inside) (is : IsCore c) (now : CoreView) → core_view c ≡ now → (t : ℕ) →
-    ((s : Scenario) → rates.Shows c.scenario s → false ≡ may_stop s t) → NoStop now t
-no_stop_shown c is now view t may =
-    let core = core_view c in
-    let one : IsOne (plan_of core) (state_of core) is.shows.part is.shows.share = record { parts = is.shows.parts; shares = is.shows.shares } in
-    let s = scenario_in (state_of core) is.shows.part is.shows.share in
-    let inside : NoStop core t =
-    to_scenario (plan_of core) (state_of core) is.shows.part is.shows.share one (λ (s : Scenario). may_stop s t ≡ false) (sym (may s is.shows.rates)) in
-    subst (λ (v : CoreView). NoStop v t) view inside
+over core thread t closed = answered_alone core thread t asks.Act Over (closed_over (plan_of core) (state_of core) t thread closed)
 
 -- ---- Check and Look
 
@@ -116,30 +129,31 @@ not_halted machine.Runs e = refl
 not_halted (machine.StartsNothing commanded) e = refl
 not_halted machine.Halted e = absurd (e refl)
 
-level_kept : (c : Inside) (is : IsCore c) → c.scenario.level ≡ rates.kept_level is.shows.share.level
-level_kept c is = rw is.shows.rates.kept refl
+level_same : (k : RatesView) (s : Scenario) → rates.Shows k s → number_of k.level ≡ number_of (rates.kept_level s.share.level)
+level_same k s shown = ap (λ (v : RatesView). number_of v.level) shown.kept
 
-checked : (c : Inside) (is : IsCore c) (halts : Bool) → level_halts is.shows.share.level ≡ halts → (thread t : ℕ) →
-    IsAsked (core_view c) (core_view c) thread (asks.Check 0) t (cond halts Halt Go)
-checked c is halts level thread t =
-    let reply : check_reply is.shows.share ≡ cond halts Halt Go = rw level refl in
-    let all : results (plan_of (core_view c)) (state_of (core_view c)) thread (asks.Check 0) t ≡ answered (state_of (core_view c)) (check_reply is.shows.share) ∷ [] =
-    ap (λ (shares : List machine.Share). option_map_or (λ (share : machine.Share). answered (state_of (core_view c)) (check_reply share) ∷ []) (slice_get shares 0) []) is.shows.shares in
-    answered_alone (core_view c) thread t (asks.Check 0) (cond halts Halt Go) (all ∙ ap (λ (r : Reply). answered (state_of (core_view c)) r ∷ []) reply)
+checked : (core : CoreView) (n : ℕ) (share : machine.Share) → slice_get (state_of core).shares n ≡ Some share → (halts : Bool) → level_halts share.level ≡ halts → (thread t : ℕ) →
+    IsAsked core core thread (asks.Check n) t (cond halts Halt Go)
+checked core n share at halts level thread t =
+    let reply : check_reply share ≡ cond halts Halt Go = rw level refl in
+    let all : results (plan_of core) (state_of core) thread (asks.Check n) t ≡ answered (state_of core) (check_reply share) ∷ [] =
+    ap (λ (o : Option machine.Share). option_map_or (λ (share : machine.Share). answered (state_of core) (check_reply share) ∷ []) o []) at in
+    answered_alone core thread t (asks.Check n) (cond halts Halt Go) (all ∙ ap (λ (r : Reply). answered (state_of core) r ∷ []) reply)
 
-pub halts : (c : Inside) → IsCore c → (now : CoreView) → core_view c ≡ now → (level : ℕ) → level ≡ number_of c.scenario.level → level ≡ 2 → (thread t : ℕ) →
-    IsAsked now now thread (asks.Check 0) t Halt
-halts c is now view level shown two thread t =
-    let kept = ap number_of (level_kept c is) in
-    let number : number_of (rates.kept_level is.shows.share.level) ≡ 2 = omega arith in
-    subst (λ (v : CoreView). IsAsked v v thread (asks.Check 0) t Halt) view (checked c is true (halted is.shows.share.level number) thread t)
+module _ (c : Inside) (is : IsCore c) (now : CoreView) (view : core_view c ≡ now) (n : ℕ) (k : RatesView) (at : slice_get c.scenarios.items n ≡ Some k) where
+  pub halts : number_of k.level ≡ 2 → (thread t : ℕ) → IsAsked now now thread (asks.Check n) t Halt
+  halts two thread t =
+      let s = shown_there is.shows n k at in
+      let there = part_there is.shows n s.0 s.1 in
+      subst (λ (v : CoreView). IsAsked v v thread (asks.Check n) t Halt) view
+      (checked (core_view c) n s.0.share there.1 true (halted s.0.share.level (sym (level_same k s.0 s.2) ∙ two)) thread t)
 
-pub goes : (c : Inside) → IsCore c → (now : CoreView) → core_view c ≡ now → (level : ℕ) → level ≡ number_of c.scenario.level → level ≢ 2 → (thread t : ℕ) →
-    IsAsked now now thread (asks.Check 0) t Go
-goes c is now view level shown other thread t =
-    let kept = ap number_of (level_kept c is) in
-    let number : number_of (rates.kept_level is.shows.share.level) ≢ 2 = λ e. other (omega arith) in
-    subst (λ (v : CoreView). IsAsked v v thread (asks.Check 0) t Go) view (checked c is false (not_halted is.shows.share.level number) thread t)
+  pub goes : number_of k.level ≢ 2 → (thread t : ℕ) → IsAsked now now thread (asks.Check n) t Go
+  goes other thread t =
+      let s = shown_there is.shows n k at in
+      let there = part_there is.shows n s.0 s.1 in
+      subst (λ (v : CoreView). IsAsked v v thread (asks.Check n) t Go) view
+      (checked (core_view c) n s.0.share there.1 false (not_halted s.0.share.level (λ e. other (level_same k s.0 s.2 ∙ e))) thread t)
 
 pub look_over : (core : CoreView) (thread t : ℕ) → machine.all_closed (state_of core) ≡ true → IsAsked core core thread asks.Look t Over
 look_over core thread t closed = answered_alone core thread t asks.Look Over (rw closed refl)
@@ -154,26 +168,14 @@ look_alive c is now view goes_on thread t =
 
 -- ---- Return
 
--- a stint that is out is of the one scenario
-first_alone : (core : CoreView) (single : IsSingle core) (thread : ℕ) (stint : StintView) → IsTrue (is_out (state_of core) thread stint) → stint.scenario ≡ 0
-first_alone core single thread stint out =
-    let P : ℕ → Type 0 = λ n. option_map_or (λ (share : machine.Share). out_of share) (slice_get (single.share ∷ []) n) false ≡ true → n ≡ 0 in
-    let found : P stint.scenario = elim stint.scenario as P [ zero ↦ λ e. refl | suc n ↦ λ e. absurd (cc) ] in
-    let there : option_map_or (λ (share : machine.Share). out_of share) (slice_get (single.share ∷ []) stint.scenario) false ≡ true = rw (← single.shares) out in
-    found there
-  where
-    out_of : machine.Share → Bool
-    out_of share = list_any (λ (h : machine.HeldUser). (h.user == stint.user) && is_busy_with h.condition thread stint.item stint.until) share.held
-
-pub returned : (core new : CoreView) (single : IsSingle core) (thread t : ℕ) (stint : StintView) (finished : Bool) (tally : TallyView) → IsReturn core thread stint tally →
-    (outcome : Outcome) → outcome ≡ outcome_of finished t stint.until → Adds core new thread t (acts.Return 0 stint.user stint.item outcome tally) →
+pub returned : (core new : CoreView) (thread t : ℕ) (stint : StintView) (finished : Bool) (tally : TallyView) → IsReturn core thread stint tally →
+    (outcome : Outcome) → outcome ≡ outcome_of finished t stint.until → Adds core new thread t (acts.Return stint.scenario stint.user stint.item outcome tally) →
     IsAsked core new thread (asks.Return stint finished tally) t Noted
-returned core new single thread t stint finished tally may outcome is adds =
-    let zeroth = first_alone core single thread stint may.out in
-    let act : return_of stint (outcome_of finished t stint.until) tally ≡ acts.Return 0 stint.user stint.item outcome tally = rw (zeroth, is) refl in
+returned core new thread t stint finished tally may outcome is adds =
+    let act : return_of stint (outcome_of finished t stint.until) tally ≡ acts.Return stint.scenario stint.user stint.item outcome tally = rw is refl in
     let all : results (plan_of core) (state_of core) thread (asks.Return stint finished tally) t
     ≡ performed (plan_of core) (state_of core) thread t Noted (return_of stint (outcome_of finished t stint.until) tally ∷ []) ∷ [] = rw (may.out, may.fits) refl in
-    noted_alone core new thread t (asks.Return stint finished tally) (acts.Return 0 stint.user stint.item outcome tally)
+    noted_alone core new thread t (asks.Return stint finished tally) (acts.Return stint.scenario stint.user stint.item outcome tally)
     (all ∙ ap (λ (a : Act). performed (plan_of core) (state_of core) thread t Noted (a ∷ []) ∷ []) act) adds
 
 -- ---- Control
@@ -189,9 +191,9 @@ denied_again c is now view thread t stopped = denied now thread t commands.Stop 
 
 denied_others : (c : Inside) (is : IsCore c) (command : Command) → command ≢ commands.Stop → is_denied c.plan.plan (state_of (core_view c)) command ≡ true
 denied_others c is commands.Stop other = absurd (other refl)
-denied_others c is (commands.Pause b) other = rw (none_external c.plan.plan c.pool c.scenario c.busy c.stopped (state_of (core_view c)) is.shows) refl
-denied_others c is (commands.Vus n) other = rw (none_external c.plan.plan c.pool c.scenario c.busy c.stopped (state_of (core_view c)) is.shows) refl
-denied_others c is (commands.VusMax n) other = rw (none_external c.plan.plan c.pool c.scenario c.busy c.stopped (state_of (core_view c)) is.shows) refl
+denied_others c is (commands.Pause b) other = rw (none_external is.shows) refl
+denied_others c is (commands.Vus n) other = rw (none_external is.shows) refl
+denied_others c is (commands.VusMax n) other = rw (none_external is.shows) refl
 
 pub denied_other : (c : Inside) → IsCore c → (now : CoreView) → core_view c ≡ now → (thread t : ℕ) (command : Command) → command ≢ commands.Stop →
     IsAsked now now thread (asks.Control command) t Denied
@@ -212,11 +214,3 @@ pub stop_noted : (c : Inside) → IsCore c → (now new : CoreView) → core_vie
     None ≡ entries_refusal (plan_of now) (state_of now) 1 0 → Adds now new thread t (acts.Control commands.Stop) → IsAsked now new thread (asks.Control commands.Stop) t Noted
 stop_noted c is now new view thread t running refusal adds =
     noted_alone now new thread t (asks.Control commands.Stop) (acts.Control commands.Stop) (stop_is now thread t None (stopped_kept c is now view ∙ running) refusal) adds
-
--- ---- which scenario is checked
-
-pub first_checked : (c : Inside) → IsCore c → (now : CoreView) → core_view c ≡ now → (n : ℕ) → n < length (plan_of now).parts → n ≡ 0
-first_checked c is now view n below =
-    let single = single_shown c is now view in
-    let one : length (plan_of now).parts ≡ 1 = ap (λ (ps : List Part). length ps) single.parts in
-    omega arith

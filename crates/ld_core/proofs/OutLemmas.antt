@@ -1,120 +1,104 @@
--- Which stints are out, by the table of busy users.
-use Rattle.std.proofs.Common.{◌≡◌, ◌<◌, ◌≤◌, ◌==◌, ◌&&◌, ◌||◌, ℕ, zero, suc, Bool, true, false, cond, List, [], ◌∷◌, Option, None, Some, slice_get, length, arith, refl, ap, sym, subst, ◌∙◌}
-use Rattle.std.specs.List.{AllByRecursion, list_any}
-use Rattle.std.specs.Option.{option_map_or}
-use Rattle.std.proofs.lemmas.Grind.{common_steps}
-use Rattle.std.proofs.Math.Decide.{dec_lt}
+-- Which stints are out, by what the pool says.
+use Rattle.std.proofs.Common.{◌≡◌, ◌==◌, ◌&&◌, ℕ, Bool, true, false, Option, None, Some, slice_get, arith, refl, ap, sym, subst, ◌∙◌}
+use Rattle.std.specs.List.{list_any}
+use Rattle.std.specs.Option.{option_and_then, option_map_or}
 use Rattle.ld_base.specs.Stint.{StintView}
+use Rattle.ld_machine.specs.Holders.{holder_of}
 use Rattle.ld_machine.specs.State.{Condition, Idle, Busy, HeldUser, Share}
 use Rattle.ld_machine.specs.Step.{is_busy_with, is_out}
-use Rattle.ld_core.specs.BusyUsers.{busy_at, plays}
+use Rattle.ld_machine.proofs.BusyLemmas.{same_number}
+use Rattle.ld_machine.proofs.FirstOfAllLemmas.{In-of}
+use Rattle.ld_machine.proofs.ListLemmas.{any-from_In, both_true, number_itself}
+use Rattle.ld_machine.proofs.WhoHoldsLemmas.{holder_in_share}
+use Rattle.ld_pool.specs.Users as pools
+use Rattle.ld_pool.specs.declared.busy.Busy as playing
+use Rattle.ld_pool.specs.declared.user.User.{User}
+use Rattle.ld_pool.specs.declared.user.User.TheVariants as users
+use Rattle.ld_pool.proofs.UserLemmas.{user_at_place}
 use Rattle.ld_core.specs.Core.{IsCore, core_view}
 use Rattle.ld_core.specs.CoreView.{CoreView, state_of}
-use Rattle.ld_core.specs.Shows.{IsMade, Rise, busy_of, condition_busy}
-use Rattle.ld_core.specs.declared.busy.Busy as playing
+use Rattle.ld_core.specs.Shows.{condition_user, user_held, user_of}
 use Rattle.ld_core.specs.declared.machine.Core.TheInside.{Inside}
-use Rattle.ld_core.proofs.HeldLemmas.{Above, above_apart, among, rise_above, same_number, unmade_none}
-use Rattle.ld_core.proofs.PartsLemmas.{busy_long, busy_said}
-use Rattle.ld_core.proofs.BehindLemmas.{parts_shown}
+use Rattle.ld_core.proofs.CoreLemmas.{out_found, state_behind}
+use Rattle.ld_core.proofs.ShownLemmas.{user_found, user_said, users_long}
 
--- what is said of the thread, the item and the until of what a user plays, if anything
-abbrev pub plays_this : ℕ → ℕ → ℕ → Option playing.Busy → Bool
-plays_this thread item until None = false
-plays_this thread item until (Some busy) = plays busy thread item until
+-- what a user plays, if anything, is the play of this stint
+abbrev pub plays_this : ℕ → StintView → Option playing.Busy → Bool
+plays_this thread stint None = false
+plays_this thread stint (Some busy) = pools.plays busy thread stint
 
-condition_plays : (condition : Condition) (thread item until : ℕ) → is_busy_with condition thread item until ≡ plays_this thread item until (condition_busy condition)
-condition_plays Idle thread item until = refl
-condition_plays (Busy thread' item' until') thread item until = refl
+both_ways : (a b : Bool) → (a ≡ true → b ≡ true) → (b ≡ true → a ≡ true) → a ≡ b
+both_ways true b to from = sym (to refl)
+both_ways false true to from = from refl
+both_ways false false to from = refl
 
-none_above : (test : HeldUser → Bool) (user : ℕ) (held : List HeldUser) → Above user held → list_any (λ (h : HeldUser). (h.user == user) && test h) held ≡ false
-none_above test user [] above = refl
-none_above test user (h ∷ rest) above = rw (above_apart user h.user above.0, none_above test user rest above.1) refl
+-- a user that plays is a busy one
+found_busy : (o : Option User) (busy : playing.Busy) → option_and_then pools.busy_of o ≡ Some busy → o ≡ Some (users.Busy busy)
+found_busy None busy e = absurd (cc)
+found_busy (Some users.Free) busy e = absurd (cc)
+found_busy (Some (users.Idle scenario)) busy e = absurd (cc)
+found_busy (Some (users.Busy other)) busy e = cc
 
-or_false : (b : Bool) → (b || false) ≡ b
-or_false true = refl
-or_false false = refl
+-- and its holder holds it so
+record Plays (o : Option (ℕ × HeldUser)) (busy : playing.Busy) : Type 0 where
+  h : HeldUser
+  holder : o ≡ Some (busy.scenario, h)
+  is : h.condition ≡ Busy busy.thread busy.item busy.until
 
--- of held users only the one of this number counts
-one_counts : (test : HeldUser → Bool) (user : ℕ) (held : List HeldUser) → Rise held →
-    list_any (λ (h : HeldUser). (h.user == user) && test h) held ≡ option_map_or test (among held user) false
-one_counts test user [] rise = refl
-one_counts test user (h ∷ rest) rise =
-    let up = rise_above h rest rise in
-    let P : Bool → Type 0 = λ b. (h.user == user) ≡ b →
-    ((b && test h) || list_any (λ (h : HeldUser). (h.user == user) && test h) rest) ≡ option_map_or test (cond b (Some h) (among rest user)) false in
-    let from : P (h.user == user) = elim (h.user == user) as P [
-      | true ↦ λ e.
-          let same = same_number h.user user e in
-          let above : Above user rest = subst (λ (k : ℕ). Above k rest) same up.0 in
-          rw (none_above test user rest above) (or_false (test h))
-      | false ↦ λ e. one_counts test user rest up.1
-    ] in from refl
+condition_is : (n : ℕ) (condition : Condition) (busy : playing.Busy) → condition_user n condition ≡ users.Busy busy → (n ≡ busy.scenario) × (condition ≡ Busy busy.thread busy.item busy.until)
+condition_is n Idle busy e = absurd (cc)
+condition_is n (Busy thread item until) busy e =
+    let same : record { thread = thread; scenario = n; item = item; until = until } ≡ busy = cc in
+    (ap (λ (b : playing.Busy). b.scenario) same, ap (λ (b : playing.Busy). Busy b.thread b.item b.until) same)
 
-busy_found : (o : Option HeldUser) (thread item until : ℕ) →
-    option_map_or (λ (h : HeldUser). is_busy_with h.condition thread item until) o false ≡ plays_this thread item until (option_map_or (λ (h : HeldUser). condition_busy h.condition) o None)
-busy_found None thread item until = refl
-busy_found (Some h) thread item until = condition_plays h.condition thread item until
+holder_plays : (o : Option (ℕ × HeldUser)) (busy : playing.Busy) → user_held o ≡ users.Busy busy → Plays o busy
+holder_plays None busy e = absurd (cc)
+holder_plays (Some p) busy e =
+    let is = condition_is p.0 p.1.condition busy e in
+    record { h = p.1; holder = ap (λ (n : ℕ). Some (n, p.1)) is.0; is = is.1 }
 
-out_of_share : (scenario : ℕ) (share : Share) (f : Share → Bool) → option_map_or f (slice_get (share ∷ []) scenario) false ≡ ((scenario == 0) && f share)
-out_of_share zero share f = refl
-out_of_share (suc n) share f = let other : (suc n == 0) ≡ false = grind (arith, common_steps) in rw other refl
+module _ (c : Inside) (is : IsCore c) (thread : ℕ) (stint : StintView) where
+  out_plays : is_out (state_behind c) thread stint ≡ true → plays_this thread stint (option_and_then pools.busy_of (pools.user_at c.pool.users stint.user)) ≡ true
+  out_plays out =
+      let found = user_found is.shows stint.scenario stint.user (Busy thread stint.item stint.until) (out_found c is thread stint out) in
+      ap (λ (o : Option User). plays_this thread stint (option_and_then pools.busy_of o)) found
+      ∙ rw (number_itself thread, number_itself stint.scenario, number_itself stint.item, number_itself stint.until) refl
 
-past_end : (xs : List (Option playing.Busy)) (user : ℕ) → length xs < user → busy_at xs user ≡ None
-past_end xs zero past = absurd (omega arith)
-past_end [] (suc k) past = refl
-past_end (x ∷ xs) (suc zero) past = absurd (omega arith)
-past_end (x ∷ xs) (suc (suc k)) past = past_end xs (suc k) (omega arith)
+  plays_out : (busy : playing.Busy) → option_and_then pools.busy_of (pools.user_at c.pool.users stint.user) ≡ Some busy → pools.plays busy thread stint ≡ true →
+      is_out (state_behind c) thread stint ≡ true
+  plays_out busy found plays =
+      let first = both_true ((busy.thread == thread) && (busy.scenario == stint.scenario) && (busy.item == stint.item)) (busy.until == stint.until) plays in
+      let second = both_true ((busy.thread == thread) && (busy.scenario == stint.scenario)) (busy.item == stint.item) first.0 in
+      let third = both_true (busy.thread == thread) (busy.scenario == stint.scenario) second.0 in
+      let at = found_busy (pools.user_at c.pool.users stint.user) busy found in
+      let place = user_at_place c.pool.users stint.user (users.Busy busy) at in
+      let long = users_long is.shows in
+      let said = user_said is.shows stint.user (omega arith) (omega (arith, place.1, long)) in
+      let user : user_of (state_behind c) stint.user ≡ users.Busy busy = some_same (sym said ∙ at) in
+      let p = holder_plays (holder_of (state_behind c) stint.user) busy user in
+      let held = (holder_in_share (state_behind c) stint.user busy.scenario p.h is.shows.well).0 p.holder in
+      let numbers : (busy.thread ≡ thread) × (busy.item ≡ stint.item) × (busy.until ≡ stint.until) =
+      (same_number busy.thread thread third.0, same_number busy.item stint.item second.1, same_number busy.until stint.until first.1) in
+      let condition : p.h.condition ≡ Busy thread stint.item stint.until = p.is ∙ rw (numbers.0, numbers.1, numbers.2) refl in
+      let passes : ((p.h.user == stint.user) && is_busy_with p.h.condition thread stint.item stint.until) ≡ true =
+      rw (held.3, condition, number_itself stint.user, number_itself thread, number_itself stint.item, number_itself stint.until) refl in
+      let stands : slice_get (state_behind c).shares stint.scenario ≡ Some held.0 =
+      subst (λ (n : ℕ). slice_get (state_behind c).shares n ≡ Some held.0) (same_number busy.scenario stint.scenario third.1) held.1 in
+      ap (λ (o : Option Share). option_map_or (λ (share : Share). list_any (λ (h : HeldUser). (h.user == stint.user) && is_busy_with h.condition thread stint.item stint.until) share.held) o false) stands
+      ∙ any-from_In (λ (h : HeldUser). (h.user == stint.user) && is_busy_with h.condition thread stint.item stint.until) p.h (In-of held.2) passes
+    where
+      some_same : {A : Type 0} {x y : A} → Some x ≡ Some y → x ≡ y
+      some_same e = cc
 
-nobody_zero : (made : ℕ) (held : List HeldUser) → AllByRecursion (IsMade made) held → among held 0 ≡ None
-nobody_zero made [] each = refl
-nobody_zero made (h ∷ rest) each =
-    let one : 1 ≤ h.user = each.0.from_one in
-    rw (above_apart 0 h.user (omega arith), nobody_zero made rest each.1) refl
+  found_out : (o : Option playing.Busy) → option_and_then pools.busy_of (pools.user_at c.pool.users stint.user) ≡ o → plays_this thread stint o ≡ true → is_out (state_behind c) thread stint ≡ true
+  found_out None found plays = absurd (cc)
+  found_out (Some busy) found plays = plays_out busy found plays
 
-module _ (c : Inside) (is : IsCore c) where
-  table_says : (user : ℕ) → busy_at c.busy user ≡ busy_of is.shows.share user
-  table_says zero = sym (ap (λ (o : Option HeldUser). option_map_or (λ (h : HeldUser). condition_busy h.condition) o None) (nobody_zero (state_of (core_view c)).made is.shows.share.held is.shows.held_made))
-  table_says (suc k) =
-      elim (dec_lt c.plan.plan.limit (suc k)) [
-        | no within ↦ busy_said (parts_shown is.shows) (suc k) (omega arith) (omega arith)
-        | yes past ↦
-            let long = busy_long (parts_shown is.shows) in
-            let few : (state_of (core_view c)).made ≤ c.plan.plan.limit = is.shows.made in
-            let nobody = unmade_none (state_of (core_view c)).made (suc k) is.shows.share.held is.shows.held_made (omega arith) in
-            past_end c.busy (suc k) (omega arith)
-            ∙ sym (ap (λ (o : Option HeldUser). option_map_or (λ (h : HeldUser). condition_busy h.condition) o None) nobody)
-      ]
+  pub out_inside : plays_this thread stint (option_and_then pools.busy_of (pools.user_at c.pool.users stint.user)) ≡ is_out (state_behind c) thread stint
+  out_inside = both_ways _ _ (found_out _ refl) out_plays
 
-  pub out_inside : (thread : ℕ) (stint : StintView) →
-      is_out (state_of (core_view c)) thread stint ≡ ((stint.scenario == 0) && plays_this thread stint.item stint.until (busy_at c.busy stint.user))
-  out_inside thread stint =
-      let test : HeldUser → Bool = λ h. is_busy_with h.condition thread stint.item stint.until in
-      let at : is_out (state_of (core_view c)) thread stint
-      ≡ option_map_or (λ (share : Share). list_any (λ (h : HeldUser). (h.user == stint.user) && test h) share.held) (slice_get (is.shows.share ∷ []) stint.scenario) false =
-      ap (λ (shares : List Share). option_map_or (λ (share : Share). list_any (λ (h : HeldUser). (h.user == stint.user) && test h) share.held) (slice_get shares stint.scenario) false) is.shows.shares in
-      let says : list_any (λ (h : HeldUser). (h.user == stint.user) && test h) is.shows.share.held ≡ plays_this thread stint.item stint.until (busy_at c.busy stint.user) =
-      one_counts test stint.user is.shows.share.held is.shows.held_rise ∙ busy_found (among is.shows.share.held stint.user) thread stint.item stint.until
-      ∙ ap (λ (o : Option playing.Busy). plays_this thread stint.item stint.until o) (sym (table_says stint.user)) in
-      at ∙ out_of_share stint.scenario is.shows.share (λ (share : Share). list_any (λ (h : HeldUser). (h.user == stint.user) && test h) share.held)
-      ∙ ap (λ (b : Bool). (stint.scenario == 0) && b) says
-
-pub out_shown : (c : Inside) → IsCore c → (now : CoreView) → core_view c ≡ now → (thread : ℕ) (stint : StintView) (found : Option playing.Busy) → found ≡ busy_at c.busy stint.user →
-    (result : Bool) → result ≡ ((stint.scenario == 0) && plays_this thread stint.item stint.until found) → result ≡ is_out (state_of now) thread stint
-out_shown c is now view thread stint found shown result tested =
-    tested ∙ ap (λ (o : Option playing.Busy). (stint.scenario == 0) && plays_this thread stint.item stint.until o) shown ∙ sym (out_inside c is thread stint)
-    ∙ ap (λ (v : CoreView). is_out (state_of v) thread stint) view
-
--- nothing is out that isn't in the table, and what is there is as it says
-pub none_out : (c : Inside) → IsCore c → (now : CoreView) → core_view c ≡ now → (thread : ℕ) (stint : StintView) → None ≡ busy_at c.busy stint.user →
-    false ≡ is_out (state_of now) thread stint
-none_out c is now view thread stint nothing = out_shown c is now view thread stint None nothing false (sym (and_false (stint.scenario == 0)))
-  where
-    and_false : (b : Bool) → (b && false) ≡ false
-    and_false true = refl
-    and_false false = refl
-
-pub some_out : (c : Inside) → IsCore c → (now : CoreView) → core_view c ≡ now → (thread : ℕ) (stint : StintView) (busy : playing.Busy) → Some busy ≡ busy_at c.busy stint.user →
-    stint.scenario ≡ 0 → (result : Bool) → result ≡ plays busy thread stint.item stint.until → result ≡ is_out (state_of now) thread stint
-some_out c is now view thread stint busy something first result tested =
-    let same : result ≡ ((stint.scenario == 0) && plays busy thread stint.item stint.until) = rw first tested in
-    out_shown c is now view thread stint (Some busy) something result same
+-- what the pool finds of the stint's user tells whether it is out
+pub out_shown : (c : Inside) → IsCore c → (now : CoreView) → core_view c ≡ now → (thread : ℕ) (stint : StintView) (found : Option playing.Busy) →
+    found ≡ option_and_then pools.busy_of (pools.user_at c.pool.users stint.user) → plays_this thread stint found ≡ is_out (state_of now) thread stint
+out_shown c is now view thread stint found shown =
+    ap (plays_this thread stint) shown ∙ out_inside c is thread stint ∙ ap (λ (v : CoreView). is_out (state_of v) thread stint) view

@@ -24,7 +24,7 @@ ended_entries plan n item state =
     let P : Option Part → Type 0 = λ o. (option_map_or (λ part. change_share state n (end_item part item)) o state).entries ≡ state.entries in
     elim (slice_get plan.parts n) as P [ None ↦ refl | Some part ↦ refl ]
 
-act_entries : (plan : Plan) (state : State) (thread t : ℕ) (act : Act) → (after_act plan state thread t act).entries ≡ state.entries
+pub act_entries : (plan : Plan) (state : State) (thread t : ℕ) (act : Act) → (after_act plan state thread t act).entries ≡ state.entries
 act_entries plan state thread t (Take n user slot) = refl
 act_entries plan state thread t (Grow n user slot) = refl
 act_entries plan state thread t (Start n user item until) = ended_entries plan n item (change_share state n (put_condition user (Busy thread item until)))
@@ -65,7 +65,7 @@ ended_samples plan n item state =
 none_more : (n : ℕ) → n ≡ n + 0
 none_more n = omega arith
 
-acted_samples : (plan : Plan) (state : State) (thread t : ℕ) (act : Act) → (after_act plan state thread t act).samples ≡ state.samples + act_samples act
+pub acted_samples : (plan : Plan) (state : State) (thread t : ℕ) (act : Act) → (after_act plan state thread t act).samples ≡ state.samples + act_samples act
 acted_samples plan state thread t (Take n user slot) = none_more state.samples
 acted_samples plan state thread t (Grow n user slot) = none_more state.samples
 acted_samples plan state thread t (Start n user item until) =

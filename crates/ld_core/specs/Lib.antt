@@ -1,8 +1,6 @@
-pub mod BusyUsers
 pub mod CoreView
 pub mod Shows
 pub mod Core
 pub mod Changes
 pub mod Firsts
-pub mod Single
 pub mod Runs

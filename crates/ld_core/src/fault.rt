@@ -2,9 +2,8 @@ ghost use Rattle.std.specs.Prelude.{◌≡◌};
 ghost use Rattle.ld_core.specs.declared.fault.CoreFault.TheVariants.{Memory};
 
 use ld_base::BaseFault;
-use ld_plan::PlanFault;
+use ld_executor::ExecutorFault;
 use ld_pool::PoolFault;
-use ld_rates::ExecFault;
 use std::alloc::AllocError;
 use thiserror::Error;
 
@@ -32,14 +31,6 @@ impl From<BaseFault> for CoreFault {
     }
 }
 
-impl From<PlanFault> for CoreFault {
-    ghost from_gives = { λ _ fault. fault ≡ Memory };
-
-    fn from(_fault: PlanFault) -> CoreFault {
-        CoreFault::Memory
-    }
-}
-
 impl From<PoolFault> for CoreFault {
     ghost from_gives = { λ _ fault. fault ≡ Memory };
 
@@ -48,10 +39,10 @@ impl From<PoolFault> for CoreFault {
     }
 }
 
-impl From<ExecFault> for CoreFault {
+impl From<ExecutorFault> for CoreFault {
     ghost from_gives = { λ _ fault. fault ≡ Memory };
 
-    fn from(_fault: ExecFault) -> CoreFault {
+    fn from(_fault: ExecutorFault) -> CoreFault {
         CoreFault::Memory
     }
 }

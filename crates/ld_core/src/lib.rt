@@ -2,16 +2,14 @@
 #![tactic(auto)]
 
 mod act;
-mod busy;
-mod busy_users;
 mod changes;
 mod fault;
+mod first;
 mod laws;
 mod machine;
 mod opening;
 mod room;
 
 pub use crate::machine::Core;
-pub use busy::Busy;
 pub use fault::CoreFault;
 pub use laws::every_run;

@@ -1,12 +1,11 @@
 ghost use Rattle.std.specs.Prelude.{◌≡◌, [], IfErr, IfOk};
 
-use crate::busy_users::BusyUsers;
 use crate::fault::CoreFault;
 use crate::opening::opening;
 use ld_base::{Ask, History, Reply, Stint};
+use ld_executor::ExecutorState;
 use ld_plan::Plan;
 use ld_pool::Pool;
-use ld_rates::RatesState;
 use std::alloc::Global;
 use std::marker::Model;
 
@@ -16,10 +15,10 @@ use std::marker::Model;
 pub struct Core {
     pub(crate) plan: Plan,
     pub(crate) pool: Pool,
-    pub(crate) scenario: RatesState,
-    pub(crate) busy: BusyUsers,
+    pub(crate) scenarios: Vec<ExecutorState>,
     pub(crate) stopped: bool,
     pub(crate) samples: u64,
+    pub(crate) under_way: u64,
     pub(crate) history: History,
 }
 
@@ -52,10 +51,10 @@ impl Core {
             Ok(opening) => Ok(Core {
                 plan,
                 pool: opening.pool,
-                scenario: opening.scenario,
-                busy: opening.busy,
+                scenarios: opening.scenarios,
                 stopped: false,
                 samples: 0,
+                under_way: 0,
                 history: opening.history,
             }),
             Err(fault) => Err(fault),
@@ -88,10 +87,8 @@ impl Core {
     pub fn is_out(&self, thread: u32, stint: &Stint) -> bool
         ensures { result ≡ is_out (state_of self.now) thread stint.now }
     {
-        match self.busy.get(stint.user()) {
-            Some(busy) => {
-                stint.scenario() == 0 && busy.plays(thread, stint.item(), stint.until())
-            }
+        match self.pool.busy(stint.user()) {
+            Some(busy) => busy.plays(thread, stint),
             None => false,
         }
     }
@@ -118,10 +115,10 @@ impl Core {
         let Core {
             plan,
             pool: _,
-            scenario: _,
-            busy: _,
+            scenarios: _,
             stopped: _,
             samples: _,
+            under_way: _,
             history,
         } = self;
         (plan, history)

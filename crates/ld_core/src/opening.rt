@@ -2,23 +2,21 @@
 ghost use Rattle.std.specs.Prelude.{◌≡◌, IfErr, IfOk};
 ghost use Rattle.ld_plan.specs.Plan.{IsMade};
 ghost use Rattle.ld_core.specs.Core.{IsOpening};
-ghost use Rattle.ld_core.specs.Shows.{ShowsOpening};
+ghost use Rattle.ld_core.specs.Shows.{ShowOpenings};
 ghost use Rattle.ld_core.specs.declared.fault.CoreFault.{CoreFault};
 
-use crate::busy_users::BusyUsers;
 use crate::fault::CoreFault;
 use ld_base::History;
+use ld_executor::ExecutorState;
 use ld_plan::Plan;
 use ld_pool::Pool;
-use ld_rates::{RatesPart, RatesState};
 use std::alloc::Global;
 
 /// The parts of a core before anything was done.
 #[derive(Drop)]
 pub struct OpeningParts {
     pub pool: Pool,
-    pub scenario: RatesState,
-    pub busy: BusyUsers,
+    pub scenarios: Vec<ExecutorState>,
     pub history: History,
 }
 
@@ -28,33 +26,28 @@ pub fn opening(alloc: Global, plan: &Plan) -> Result<OpeningParts, CoreFault>
     ensures opens { IfOk result (IsOpening plan.now) }
     ensures memory { IfErr result (λ f. f ≡ CoreFault.Memory) }
 {
-    let scenario = opening_scenario(alloc, plan)?;
+    let scenarios = opening_scenarios(alloc, plan)?;
     let users = plan.users();
     let pool = Pool::new(alloc, users.planned, users.limit)?;
-    let busy = BusyUsers::new(alloc, users.limit)?;
     let history = History::new(alloc, plan.entries())?;
     Ok(OpeningParts {
         pool,
-        scenario,
-        busy,
+        scenarios,
         history,
     })
 }
 
-// The state of the plan's scenario before anything was done. It takes all memory of the scenario.
-fn opening_scenario(alloc: Global, plan: &Plan) -> Result<RatesState, CoreFault>
-    requires made { IsMade plan.now }
-    ensures shows { IfOk result (ShowsOpening plan.now.plan) }
+// The states of the plan's scenarios before anything was done. They take all memory of the scenarios.
+fn opening_scenarios(alloc: Global, plan: &Plan) -> Result<Vec<ExecutorState>, CoreFault>
+    ensures show { IfOk result (λ scenarios. ShowOpenings plan.now.plan scenarios.items) }
     ensures memory { IfErr result (λ f. f ≡ CoreFault.Memory) }
 {
-    let row = plan.row(0);
-    let part = RatesPart {
-        begin: row.begin,
-        end: row.end,
-        grace: plan.grace(0),
-        pre: row.users,
-        max: row.max,
-        ticker: plan.ticker(alloc, 0)?,
-    };
-    Ok(RatesState::new(alloc, part)?)
+    let mut scenarios = Vec::new(alloc);
+    for number in 0..plan.scenarios() {
+        let scenario = ExecutorState::opening(alloc, plan, number)?;
+        let Ok(()) = scenarios.push(scenario) else {
+            return Err(CoreFault::Memory);
+        };
+    }
+    Ok(scenarios)
 }

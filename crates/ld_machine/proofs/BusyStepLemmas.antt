@@ -147,7 +147,7 @@ with_there h (g ∷ rest) =
     let P : Bool → Type 0 = λ b. In h (cond b (h ∷ g ∷ rest) (g ∷ with_user h rest)) in
     elim (nat_lt h.user g.user) as P [ true ↦ here | false ↦ there (with_there h rest) ]
 
-hit_itself : (user : ℕ) → hit user user ≡ 1
+pub hit_itself : (user : ℕ) → hit user user ≡ 1
 hit_itself user = rw (number_itself user) refl
 
 pub hold_once : (user slot : ℕ) (share : Share) → times_among user share.held ≡ 0 → HoldsOnce is_idle (hold user slot share) user

@@ -47,6 +47,14 @@ pub least-append : (xs ys : List ℕ) → least_of (xs ++ ys) ≡ lesser (least_
 least-append [] ys = refl
 least-append (m ∷ xs) ys = rw (least-append xs ys) (least_step m (least_of xs) (least_of ys))
 
+-- one moment more
+pub least_more : (moments : List ℕ) (m : ℕ) → least_of (moments ++ m ∷ []) ≡ Some (option_map_or (min m) (least_of moments) m)
+least_more moments m = least-append moments (m ∷ []) ∙ one_more (least_of moments)
+  where
+    one_more : (o : Option ℕ) → lesser o (Some m) ≡ Some (option_map_or (min m) o m)
+    one_more None = refl
+    one_more (Some k) = ap Some (omega arith)
+
 least_in : (xs : List ℕ) (m : ℕ) → least_of xs ≡ Some m → In m xs
 least_in [] m h = absurd (cc)
 least_in (x ∷ xs) m h =

@@ -33,7 +33,7 @@ or_along : (a b c : Bool) → ((a || b) || c) ≡ (a || (b || c))
 or_along true b c = refl
 or_along false b c = refl
 
-apart_tests : (a b : ℕ) → a ≢ b → (a == b) ≡ false
+pub apart_tests : (a b : ℕ) → a ≢ b → (a == b) ≡ false
 apart_tests a b apart = false_unless (a == b) (λ e. apart (same_number a b e))
 
 -- ---- one share
@@ -238,7 +238,7 @@ range_last a (suc n) =
 
 -- ---- acts
 
-apart_from : (a b : ℕ) → (a == b) ≡ false → b ≢ a
+pub apart_from : (a b : ℕ) → (a == b) ≡ false → b ≢ a
 apart_from a b e same = grind (arith, common_steps)
 
 module _ (plan : Plan) (state : State) (thread t n : ℕ) where

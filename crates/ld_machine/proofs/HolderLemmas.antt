@@ -36,7 +36,7 @@ times-with_user user h (g ∷ rest) =
       | false ↦ let later = times-with_user user h rest in rw later (omega arith)
     ]
 
-times-if_user : (user one : ℕ) (condition : Condition) (held : List HeldUser) → times_among user (map (if_user one condition) held) ≡ times_among user held
+pub times-if_user : (user one : ℕ) (condition : Condition) (held : List HeldUser) → times_among user (map (if_user one condition) held) ≡ times_among user held
 times-if_user user one condition [] = refl
 times-if_user user one condition (h ∷ rest) =
     let P : Bool → Type 0 = λ b. (if (cond b (record h { condition = condition }) h).user == user then 1 else 0) + times_among user (map (if_user one condition) rest) ≡ hit h.user user + times_among user rest in
@@ -53,7 +53,7 @@ times-filter user p (h ∷ rest) =
     elim (p h) as P [ true ↦ omega arith | false ↦ omega arith ]
 
 -- a change that holds a user at most `more` times more
-times-change : (user more n : ℕ) (change : Share → Share) (shares : List Share) →
+pub times-change : (user more n : ℕ) (change : Share → Share) (shares : List Share) →
     ((share : Share) → times_among user (change share).held ≤ times_among user share.held + more) →
     times_held user (change_at n change shares) ≤ times_held user shares + more
 times-change user more n change [] bound = omega arith

@@ -42,7 +42,7 @@ least_fresh s item h =
     let kept = In-filter (is_open_item s) item (owned_items s.part.executor) (first_in item (open_items s) h) in
     record { opened = kept.1; owned = kept.0 }
 
-where_tells : {A : Type 0} (test : Bool) (o : Option A) (x : A) → where_holds test o ≡ Some x → o ≡ Some x
+pub where_tells : {A : Type 0} (test : Bool) (o : Option A) (x : A) → where_holds test o ≡ Some x → o ≡ Some x
 where_tells true o x h = h
 where_tells false o x h = absurd (cc)
 

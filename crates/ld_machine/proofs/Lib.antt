@@ -51,3 +51,6 @@ pub mod SomeonePlaysLemmas
 pub mod LatenessLemmas
 pub mod WhoIsBusyLemmas
 pub mod ThreadLemmas
+pub mod WhoHoldsLemmas
+pub mod WishedFirstLemmas
+pub mod ToldLemmas

@@ -156,9 +156,10 @@ module _ (users : Users) (n : ℕ) (s : Scenario) (t : ℕ) where
     ]
   ]
 
-  -- a user that is taken for an arrival is free
-  pub take_answer : (user slot : ℕ) → In (TakeAndStart user slot) (answers s users t) → In user users.free
-  take_answer user slot h = elim (In-cond (has_ended s t) (TakeAndStart user slot) (CountLate ∷ []) _ h) [
+  -- a user that is taken for an arrival is free, and the scenario may hold more
+  pub taken_answer : (user slot : ℕ) → In (TakeAndStart user slot) (answers s users t) →
+      In user users.free × ((may_hold_more s && is_some (first_of users.free)) ≡ true)
+  taken_answer user slot h = elim (In-cond (has_ended s t) (TakeAndStart user slot) (CountLate ∷ []) _ h) [
     | inl at ↦ let same = In-one (TakeAndStart user slot) CountLate at.1 in absurd (cc)
     | inr at ↦ elim (In-cond (is_some (first_of (idle_users s.share))) (TakeAndStart user slot) (map (λ (u : HeldUser). StartOn u.user) (idle_users s.share)) _ at.1) [
       | inl on ↦ let found = In-map (λ (u : HeldUser). StartOn u.user) (TakeAndStart user slot) (idle_users s.share) on.1 in absurd (cc)
@@ -168,12 +169,15 @@ module _ (users : Users) (n : ℕ) (s : Scenario) (t : ℕ) where
           | inl taken ↦
               let found = In-map (λ user. TakeAndStart user (held_count s.share)) (TakeAndStart user slot) users.free taken.1 in
               let same : found.0 ≡ user = cc in
-              subst (λ u. In u users.free) same found.1
+              (subst (λ u. In u users.free) same found.1, taken.0)
           | inr dropped ↦ let same = In-one (TakeAndStart user slot) DropArrival dropped.1 in absurd (cc)
         ]
       ]
     ]
   ]
+
+  pub take_answer : (user slot : ℕ) → In (TakeAndStart user slot) (answers s users t) → In user users.free
+  take_answer user slot h = (taken_answer user slot h).0
 
   -- an arrival starts on an idle user
   pub on_answer : (user : ℕ) → In (StartOn user) (answers s users t) → (h : HeldUser) × In h (idle_users s.share) × (h.user ≡ user)

@@ -1,14 +1,13 @@
 -- Wishes where a scenario may choose between two users.
-use Rattle.std.proofs.Common.{Contains, ◌≡◌, ◌∙◌, ℕ, Bool, true, false, List, [], ◌∷◌, Option, None, Some, refl, ap, sym, subst, inl, inr}
-use Rattle.std.specs.Prelude.{is_some}
+use Rattle.std.proofs.Common.{Contains, ◌≡◌, ◌∙◌, ℕ, false, List, [], ◌∷◌, Option, None, Some, refl, ap, sym, subst, inl, inr}
 use Rattle.ld_base.specs.declared.wish.Wish.{Wish}
-use Rattle.ld_base.specs.declared.wish.Wish.TheVariants.{Nothing, Release, Take, Start, More, Drop, Late, Close}
-use Rattle.ld_machine.specs.Scenario.{Scenario, first_of}
+use Rattle.ld_base.specs.declared.wish.Wish.TheVariants.{Nothing, Release, Start}
+use Rattle.ld_machine.specs.Scenario.{Scenario}
 use Rattle.ld_machine.specs.Moves.{Move, ReleaseUser, StartIteration, Users}
 use Rattle.ld_machine.specs.Order.{is_before, place_of}
 use Rattle.ld_machine.specs.Wishes.{later_moves, acts_wished, has_arrivals, start_wished, named_user, IsFirstOf, StandsForFirst, TellsFirst, WishesFirst}
 use Rattle.ld_machine.specs.WishExamples.{users_with}
-use Rattle.ld_machine.proofs.ListLemmas.{In, here, there, In-from_Contains, Contains-from_In, In-one, in_two}
+use Rattle.ld_machine.proofs.ListLemmas.{In, here, In-from_Contains, Contains-from_In, In-one, in_two}
 use Rattle.ld_machine.proofs.OrderLemmas.{before_itself}
 
 -- of two acts of one place each is a first one

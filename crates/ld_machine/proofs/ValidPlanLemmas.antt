@@ -1,6 +1,5 @@
 -- Valid plans: the open item that comes first is the least.
-use Rattle.std.proofs.Common.{Contains, ◌≡◌, ◌≤◌, ◌<◌, ◌+◌, ◌∙◌, ◌==◌, ◌&&◌, ℕ, zero, suc, Bool, true, false, cond, List, [], ◌∷◌, Option, None, Some, map, filter, find, option_map, length, get_or, slice_index, arith, refl, ap, sym, subst}
-use Rattle.std.specs.Prelude.{not}
+use Rattle.std.proofs.Common.{Contains, ◌≡◌, ◌≤◌, ◌<◌, ◌+◌, ◌==◌, ◌&&◌, ℕ, zero, suc, Bool, true, false, cond, List, [], ◌∷◌, Option, None, Some, map, filter, find, option_map, get_or, slice_index, arith, refl, ap, subst}
 use Rattle.std.specs.List.{list_any}
 use Rattle.std.specs.List.Sorted.{IsStrictlyIncreasing}
 use Rattle.std.proofs.lemmas.Grind.{common_steps}
@@ -22,7 +21,14 @@ head_at_most x y xs rises (suc k, below, at) =
     let same : get_or xs k y ≡ y = at in
     omega arith
 
-tail_rises : (x : ℕ) (xs : List ℕ) → IsStrictlyIncreasing (x ∷ xs) → IsStrictlyIncreasing xs
+-- the first of rising numbers is below the others, which rise
+pub head_below : (x y : ℕ) (xs : List ℕ) → IsStrictlyIncreasing (x ∷ xs) → Contains xs y → x < y
+head_below x y xs rises (k, below, at) =
+    let apart : x < get_or xs k y = AllPairs-from_increasing (x ∷ xs) rises zero (suc k) y (omega arith) (omega arith) in
+    let same : get_or xs k y ≡ y = at in
+    omega arith
+
+pub tail_rises : (x : ℕ) (xs : List ℕ) → IsStrictlyIncreasing (x ∷ xs) → IsStrictlyIncreasing xs
 tail_rises x xs rises = λ k below.
     let next : suc k + 1 ≡ suc (k + 1) = omega arith in
     subst (λ j. slice_index (x ∷ xs) (suc k) < slice_index (x ∷ xs) j) next (rises (suc k) (omega arith))
@@ -40,14 +46,8 @@ pub rising_distinct : (xs : List ℕ) → IsStrictlyIncreasing xs → is_distinc
 rising_distinct [] rises = refl
 rising_distinct (x ∷ xs) rises =
     let later = rising_distinct xs (tail_rises x xs rises) in
-    let again = none_again x xs (λ y at. above y (Contains-from_In y at)) in
+    let again = none_again x xs (λ y at. head_below x y xs rises (Contains-from_In y at)) in
     rw (again, later) refl
-  where
-    above : (y : ℕ) → Contains xs y → x < y
-    above y (k, below, at) =
-        let apart : x < get_or xs k y = AllPairs-from_increasing (x ∷ xs) rises zero (suc k) y (omega arith) (omega arith) in
-        let same : get_or xs k y ≡ y = at in
-        omega arith
 
 -- the first of rising numbers is the least of them
 first_is_least : (xs : List ℕ) (m : ℕ) → IsStrictlyIncreasing xs → first_of xs ≡ Some m → IsLeast xs m

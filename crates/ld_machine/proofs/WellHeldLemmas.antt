@@ -38,10 +38,10 @@ use Rattle.ld_machine.proofs.FreeLemmas.{range_in, any_times}
 -- ---- users are numbered from 1
 
 -- an act gains no user 0
-abbrev FromOne : Act → Type 0
+abbrev pub FromOne : Act → Type 0
 FromOne act = (one : ℕ) → gained act ≡ Some one → 1 ≤ one
 
-none_from_one : (act : Act) → gained act ≡ None → FromOne act
+pub none_from_one : (act : Act) → gained act ≡ None → FromOne act
 none_from_one act none one h = absurd (some_not_none (sym h ∙ none))
 
 from_one_by : (a b : Act) → a ≡ b → FromOne a → FromOne b
@@ -98,7 +98,7 @@ gained_zero (Some one) from =
       | false ↦ λ e. refl
     ] in none refl
 
-entry_kept : (plan : Plan) (state : State) (one : Entry) → Kept state → Gains state one.act → FromOne one.act → Kept (after_entry plan state one)
+pub entry_kept : (plan : Plan) (state : State) (one : Entry) → Kept state → Gains state one.act → FromOne one.act → Kept (after_entry plan state one)
 entry_kept plan state one kept gains from = record {
   holds = entry_holds plan state one kept.holds gains;
   zero =
@@ -108,7 +108,7 @@ entry_kept plan state one kept gains from = record {
       omega arith;
 }
 
-plain_kept : (plan : Plan) (state : State) (one : Entry) → gained one.act ≡ None → Kept state → Kept (after_entry plan state one)
+pub plain_kept : (plan : Plan) (state : State) (one : Entry) → gained one.act ≡ None → Kept state → Kept (after_entry plan state one)
 plain_kept plan state one none kept = entry_kept plan state one kept (nothing_gained state one.act none) (none_from_one one.act none)
 
 -- ---- a first act

@@ -24,7 +24,7 @@ filter_map-In {A} {B} f x y (there {y = z} {xs = xs} more) e =
     elim (f z) as P [ None ↦ filter_map-In f x y more e | Some w ↦ there (filter_map-In f x y more e) ]
 
 -- a search finds something where some element passes
-found_some : {A : Type 0} (p : A → Bool) (x : A) {xs : List A} → In x xs → p x ≡ true → (y : A) × (find p xs ≡ Some y)
+pub found_some : {A : Type 0} (p : A → Bool) (x : A) {xs : List A} → In x xs → p x ≡ true → (y : A) × (find p xs ≡ Some y)
 found_some p x here passes = (x, rw passes refl)
 found_some {A} p x (there {y = z} {xs = xs} more) passes =
     let P : Bool → Type 0 = λ b. (y : A) × (cond b (Some z) (find p xs) ≡ Some y) in

@@ -15,6 +15,7 @@ pub mod Same
 pub mod Step
 pub mod Preferred
 pub mod Busy
+pub mod Holders
 pub mod History
 pub mod Prefixes
 pub mod Counted
@@ -36,3 +37,4 @@ pub mod ShareEffect
 pub mod Wishes
 pub mod WishExamples
 pub mod Together
+pub mod Told

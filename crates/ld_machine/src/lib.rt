@@ -8,6 +8,7 @@
 mod counts;
 mod examples;
 mod further_examples;
+mod holders;
 mod lateness;
 mod laws;
 mod playing;
@@ -16,38 +17,109 @@ mod prefixes;
 mod steady;
 mod threads;
 mod together;
+mod told;
 mod valid_plans;
 mod virtual_time;
 mod wish_examples;
 
-pub use counts::{counted, counted_when_settled, slots_owned, unsettled_exactly};
-pub use examples::{
-    changed_dropped_arrival, changed_dropped_iteration, changed_grown_arrival,
-    changed_iteration_done, dropped_arrival, dropped_iteration, grown_arrival, iteration_done,
-    iteration_interrupted, rehearsals, shared_iterations,
-};
-pub use further_examples::{
-    controlled_users, full_journal, late_arrivals, ramping_users, samples, two_scenarios,
-};
-pub use lateness::{arrivals_on_time, never_late};
-pub use laws::{
-    added_by_steps, always_answered, behind_a_stop, dropped_and_late, first_acts, fitting_tallies,
-    fronts, goes_on, held_once, items_once, same_history, settled_items, settles,
-    shares_after_acts, slots_once, starts_alternate, steps_leave, waits,
-};
-pub use playing::{busy_turns, keeps_room, keeps_samples, numbered, players, players_made};
-pub use preferred::{preferred_steps, steps_again};
-pub use prefixes::{first_illegal_entry, fronts_are_prefixes};
+pub use counts::counted;
+pub use counts::counted_when_settled;
+pub use counts::slots_owned;
+pub use counts::unsettled_exactly;
+pub use examples::changed_dropped_arrival;
+pub use examples::changed_dropped_iteration;
+pub use examples::changed_grown_arrival;
+pub use examples::changed_iteration_done;
+pub use examples::dropped_arrival;
+pub use examples::dropped_iteration;
+pub use examples::grown_arrival;
+pub use examples::iteration_done;
+pub use examples::iteration_interrupted;
+pub use examples::rehearsals;
+pub use examples::shared_iterations;
+pub use further_examples::controlled_users;
+pub use further_examples::full_journal;
+pub use further_examples::late_arrivals;
+pub use further_examples::ramping_users;
+pub use further_examples::samples;
+pub use further_examples::two_scenarios;
+pub use holders::holders_behind_acts;
+pub use holders::who_holds;
+pub use holders::wishes_of_all;
+pub use lateness::arrivals_on_time;
+pub use lateness::never_late;
+pub use laws::added_by_steps;
+pub use laws::always_answered;
+pub use laws::behind_a_stop;
+pub use laws::dropped_and_late;
+pub use laws::first_acts;
+pub use laws::fitting_tallies;
+pub use laws::fronts;
+pub use laws::goes_on;
+pub use laws::held_once;
+pub use laws::items_once;
+pub use laws::same_history;
+pub use laws::settled_items;
+pub use laws::settles;
+pub use laws::shares_after_acts;
+pub use laws::slots_once;
+pub use laws::starts_alternate;
+pub use laws::steps_leave;
+pub use laws::waits;
+pub use playing::busy_turns;
+pub use playing::keeps_room;
+pub use playing::keeps_samples;
+pub use playing::numbered;
+pub use playing::players;
+pub use playing::players_made;
+pub use preferred::preferred_steps;
+pub use preferred::steps_again;
+pub use prefixes::first_illegal_entry;
+pub use prefixes::fronts_are_prefixes;
 pub use steady::steady_between_candidates;
-pub use threads::{what_threads_may_ask, who_is_busy};
-pub use together::{
-    all_over, busy_behind_acts, busy_behind_steps, busy_in_share, busy_under_change, first_of_all,
-    first_of_each, first_of_list, first_performed, first_step_by_step, free_behind_acts,
-    free_behind_steps, free_where, held_in_share, held_under_change, least_above_reading,
-    least_candidate, least_moment_steps, least_until_steps, lesser_of_moments,
-    next_candidate_of_parts, nothing_first, order_of_places, room_behind_steps, room_under_change,
-    scenarios_stand, scenarios_under_change, two_together, users_of_acts, well_held,
-};
-pub use valid_plans::{least_open, one_requirement, two_valid_plans, valid_plans_fit};
-pub use virtual_time::{someone_plays, starts_last, uncommanded, waits_on, well_timed_plans};
-pub use wish_examples::{preferred_wishes, wishes, wishes_at_the_end};
+pub use threads::what_threads_may_ask;
+pub use threads::who_is_busy;
+pub use together::all_over;
+pub use together::busy_behind_acts;
+pub use together::busy_behind_steps;
+pub use together::busy_in_share;
+pub use together::busy_under_change;
+pub use together::first_of_all;
+pub use together::first_of_each;
+pub use together::first_of_list;
+pub use together::first_performed;
+pub use together::first_step_by_step;
+pub use together::free_behind_acts;
+pub use together::free_behind_steps;
+pub use together::free_where;
+pub use together::held_in_share;
+pub use together::held_under_change;
+pub use together::least_above_reading;
+pub use together::least_candidate;
+pub use together::least_moment_steps;
+pub use together::least_until_steps;
+pub use together::lesser_of_moments;
+pub use together::next_candidate_of_parts;
+pub use together::nothing_first;
+pub use together::order_of_places;
+pub use together::room_behind_steps;
+pub use together::room_under_change;
+pub use together::scenarios_stand;
+pub use together::scenarios_under_change;
+pub use together::two_together;
+pub use together::users_of_acts;
+pub use together::well_held;
+pub use told::enabled_may_be_told;
+pub use told::told_in_order;
+pub use valid_plans::least_open;
+pub use valid_plans::one_requirement;
+pub use valid_plans::two_valid_plans;
+pub use valid_plans::valid_plans_fit;
+pub use virtual_time::someone_plays;
+pub use virtual_time::starts_last;
+pub use virtual_time::uncommanded;
+pub use virtual_time::waits_on;
+pub use virtual_time::well_timed_plans;
+pub use wish_examples::preferred_wishes;
+pub use wish_examples::wishes;
+pub use wish_examples::wishes_at_the_end;

@@ -2,3 +2,4 @@ pub mod RefusalLemmas
 pub mod TimesLemmas
 pub mod ScenarioLemmas
 pub mod OneLemmas
+pub mod SizeLemmas

@@ -19,14 +19,14 @@ use Rattle.ld_script.specs.Refusal.{Member, RefusesScripts}
 use Rattle.serde_json.specs.Data.{Data}
 
 -- one more pair
-zip_push : {A B : Type 0} (R : A → B → Type 0) (xs : List A) (ys : List B) (x : A) (y : B) → AllZip R xs ys → R x y → AllZip R (xs ++ x ∷ []) (ys ++ y ∷ [])
+pub zip_push : {A B : Type 0} (R : A → B → Type 0) (xs : List A) (ys : List B) (x : A) (y : B) → AllZip R xs ys → R x y → AllZip R (xs ++ x ∷ []) (ys ++ y ∷ [])
 zip_push R [] [] x y all last = (last, tt)
 zip_push R [] (z ∷ ys) x y all last = absurd all
 zip_push R (w ∷ xs) [] x y all last = absurd all
 zip_push R (w ∷ xs) (z ∷ ys) x y all last = (all.0, zip_push R xs ys x y all.1 last)
 
 -- one more item
-each_push : {A : Type 0} (P : A → Type 0) (xs : List A) (x : A) → AllByRecursion P xs → P x → AllByRecursion P (xs ++ x ∷ [])
+pub each_push : {A : Type 0} (P : A → Type 0) (xs : List A) (x : A) → AllByRecursion P xs → P x → AllByRecursion P (xs ++ x ∷ [])
 each_push P [] x all last = (last, tt)
 each_push P (y ∷ xs) x all last = (all.0, each_push P xs x all.1 last)
 

@@ -5,6 +5,10 @@ use Rattle.ld_options.specs.declared.executor.Executor.{Executor}
 use Rattle.ld_options.specs.declared.executor.Executor.TheVariants.{ConstantArrivals}
 use Rattle.ld_options.specs.declared.scenario.Scenario.{Scenario}
 
+-- the most scenarios of a test
+abbrev pub most_scenarios : ℕ
+most_scenarios = 20
+
 -- a number is neither below the one nor above the other
 pub record IsWithin (least most n : ℕ) : Type 0 where
   pub at_least : least ≤ n

@@ -1,11 +1,14 @@
 mod arrivals;
 mod documents;
+mod moments;
 mod numbers;
 mod options;
 mod plans;
 mod refusals;
+mod requests;
 mod scripts;
 mod segments;
+mod sets;
 mod shelves;
 mod sinks;
 mod slow_files;

@@ -26,7 +26,7 @@ use Rattle.ld_plan.specs.PartView.{PartView}
 use Rattle.ld_plan.specs.PlanView.{PlanView, arrival_of}
 use Rattle.ld_machine.specs.Requirement.{most_owned_users, owned_users}
 use Rattle.ld_plan.specs.Whole.{AreAllPlans, arrivals_at, most_users_at, users_at}
-use Rattle.ld_plan.proofs.PartLemmas.{some_users}
+use Rattle.ld_plan.proofs.ExecutorLemmas.{arrivals_owned, most_users_owned, some_users, users_owned}
 use Rattle.ld_plan.proofs.StripingLemmas.{IsSpread, one_rescaled, one_sequence_striping, owner_inside, rescaled_spread, sequence_spread, sequence_striping, striping_of}
 
 -- ---- one plan at one scenario
@@ -93,7 +93,9 @@ all_arrivals options striping items n s (seen ∷ plans) have =
     let pairs = λ (j : ℕ). owned_pairs items.owners j (schedule (timetable_of s.executor)) in
     let places = map (λ (seen : PlanView). seen.position) plans in
     let rest = all_arrivals options striping items n s plans have.1 in
-    let here : arrivals_at n seen ≡ map arrival_of (pairs seen.position) = ap (λ (o : Option Part). option_map_or (λ (part : Part). executor_arrivals part.executor) o []) have.0 in
+    let here : arrivals_at n seen ≡ map arrival_of (pairs seen.position) =
+    ap (λ (o : Option Part). option_map_or (λ (part : Part). executor_arrivals part.executor) o []) have.0
+    ∙ arrivals_owned s.executor items.owners striping seen.position in
     flat_map-cons (arrivals_at n) seen plans
     ∙ ap₂ (λ xs ys. xs ++ ys) here rest
     ∙ sym (map-append arrival_of (pairs seen.position) (flat_map pairs places))
@@ -105,7 +107,9 @@ all_users : (options : Options) (striping items : Striping) (n : ℕ) (s : Scena
 all_users options striping items n s [] have = refl
 all_users options striping items n s (seen ∷ plans) have =
     let rest = all_users options striping items n s plans have.1 in
-    let here : users_at n seen ≡ share_at striping.owners seen.position (pre_of s.executor) = ap (λ (o : Option Part). option_map_or (λ (part : Part). owned_users part.executor) o 0) have.0 in
+    let here : users_at n seen ≡ share_at striping.owners seen.position (pre_of s.executor) =
+    ap (λ (o : Option Part). option_map_or (λ (part : Part). owned_users part.executor) o 0) have.0
+    ∙ users_owned s.executor items.owners striping seen.position in
     let left = sum_by-cons (users_at n) seen plans in
     let right = sum_by-cons (λ x. x) (share_at striping.owners seen.position (pre_of s.executor))
     (map (λ j. share_at striping.owners j (pre_of s.executor)) (map (λ (seen : PlanView). seen.position) plans)) in
@@ -116,7 +120,9 @@ all_most_users : (options : Options) (striping items : Striping) (n : ℕ) (s : 
 all_most_users options striping items n s [] have = refl
 all_most_users options striping items n s (seen ∷ plans) have =
     let rest = all_most_users options striping items n s plans have.1 in
-    let here : most_users_at n seen ≡ share_at striping.owners seen.position (max_of s.executor) = ap (λ (o : Option Part). option_map_or (λ (part : Part). most_owned_users part.executor) o 0) have.0 in
+    let here : most_users_at n seen ≡ share_at striping.owners seen.position (max_of s.executor) =
+    ap (λ (o : Option Part). option_map_or (λ (part : Part). most_owned_users part.executor) o 0) have.0
+    ∙ most_users_owned s.executor items.owners striping seen.position in
     let left = sum_by-cons (most_users_at n) seen plans in
     let right = sum_by-cons (λ x. x) (share_at striping.owners seen.position (max_of s.executor))
     (map (λ j. share_at striping.owners j (max_of s.executor)) (map (λ (seen : PlanView). seen.position) plans)) in

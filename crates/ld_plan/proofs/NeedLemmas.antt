@@ -1,6 +1,6 @@
 -- What all positions of a sequence need of users at a moment sums to what the whole test needs at it.
 use Rattle.std.proofs.Common.{◌≡◌, ◌<◌, ◌≤◌, ◌+◌, ◌-◌, ◌∙◌, ℕ, Bool, true, false, List, [], ◌∷◌, cond, length, map, arith, ap, refl, sym, subst}
-use Rattle.std.specs.Prelude.{◌&&◌, nat_le, nat_lt, sum_by}
+use Rattle.std.specs.Prelude.{sum_by}
 use Rattle.std.specs.List.{AllByRecursion, AllZip}
 use Rattle.std.proofs.lemmas.List.Sums.{sum-map, sum_by-cons}
 use Rattle.ld_num.specs.declared.fraction.Frac.{Frac}
@@ -8,20 +8,20 @@ use Rattle.ld_segment.specs.Points.{IsFilled}
 use Rattle.ld_segment.specs.Segments.{one_point, segments_of, zero_point}
 use Rattle.ld_segment.specs.declared.segment.Segment.{Segment}
 use Rattle.ld_stripe.specs.Striping.{Striping, share_at}
-use Rattle.ld_arrival.specs.Timetable.{end_of}
-use Rattle.ld_machine.specs.Moment.{moment_after}
 use Rattle.ld_machine.specs.Plan.{Part}
 use Rattle.ld_machine.specs.Requirement.{executor_extra, executor_need, extra, need}
 use Rattle.ld_options.specs.Ranges.{IsScenarioInRange}
 use Rattle.ld_options.specs.declared.options.Options.{Options}
 use Rattle.ld_options.specs.declared.scenario.Scenario.{Scenario}
-use Rattle.ld_plan.specs.Executor.{max_of, pre_of, timetable_of}
+use Rattle.ld_plan.specs.Executor.{max_of, pre_of}
 use Rattle.ld_plan.specs.IsPlanOf.{AreOwned, IsPartOf, IsPlanOf, IsSequenceStriping, IsSound, part_of, sample_room, whole_striping}
+use Rattle.ld_plan.specs.Need.{is_on}
 use Rattle.ld_plan.specs.PartView.{PartView, parts_of}
 use Rattle.ld_plan.specs.PlanView.{PlanView}
 use Rattle.ld_plan.specs.Whole.{AreAllPlans}
 use Rattle.ld_plan.proofs.AllPlansLemmas.{shares_whole}
-use Rattle.ld_plan.proofs.PartLemmas.{place_inside, pre_within}
+use Rattle.ld_plan.proofs.ExecutorLemmas.{pre_within, users_added, users_needed}
+use Rattle.ld_plan.proofs.PartLemmas.{place_inside}
 use Rattle.ld_plan.proofs.StripingLemmas.{IsSpread, one_sequence_striping, sequence_spread, sequence_striping, share_rises}
 use Rattle.ld_plan.proofs.WholeLemmas.{sequence_of_one, share_of_whole}
 
@@ -43,7 +43,7 @@ sum_of_sums f g (x ∷ xs) =
     omega arith
 
 -- sums of what is as much for each
-same_sums : {X : Type 0} (f g : X → ℕ) → ((x : X) → f x ≡ g x) → (xs : List X) → sum_by f xs ≡ sum_by g xs
+pub same_sums : {X : Type 0} (f g : X → ℕ) → ((x : X) → f x ≡ g x) → (xs : List X) → sum_by f xs ≡ sum_by g xs
 same_sums f g same [] = refl
 same_sums f g same (x ∷ xs) =
     let rest = same_sums f g same xs in
@@ -88,7 +88,7 @@ IsByPlace number striping amount =
     (room : ℕ) (items : Striping) (j : ℕ) (s : Scenario) → number (part_of room striping items j s) ≡ amount j s
 
 -- the numbers of all parts of a position
-of_parts : (number : Part → ℕ) (options : Options) (striping : Striping) (amount : ℕ → Scenario → ℕ) → IsByPlace number striping amount →
+pub of_parts : (number : Part → ℕ) (options : Options) (striping : Striping) (amount : ℕ → Scenario → ℕ) → IsByPlace number striping amount →
     (j : ℕ) (scenarios : List Scenario) (views : List PartView) →
     AllZip (λ (s : Scenario). IsPartOf (sample_room options.scripts.scripts s.script) striping j s) scenarios views →
     sum_by number (parts_of views) ≡ sum_by (amount j) scenarios
@@ -179,11 +179,6 @@ owned_once number amount total by alone options sequence plans segment entries w
 
 -- ---- users at a moment
 
--- a scenario is on at a moment, at whatever position
-abbrev is_on : ℕ → Scenario → Bool
-is_on t s =
-    nat_le s.begin t && nat_lt t (moment_after (moment_after s.begin (end_of (timetable_of s.executor))) s.grace)
-
 -- the users that a position plans then, and those that it may add
 abbrev planned_at : ℕ → Striping → ℕ → Scenario → ℕ
 planned_at t striping j s = cond (is_on t s) (share_at striping.owners j (pre_of s.executor)) 0
@@ -220,7 +215,7 @@ pub need_owned_once : (options : Options) (sequence : List Frac) (plans : List P
 need_owned_once options sequence plans segment entries whole sound all is t =
     owned_once (λ (part : Part). executor_need part.executor part t) (planned_at t)
     (λ (s : Scenario). cond (is_on t s) (pre_of s.executor) 0)
-    (λ striping room items j s. refl)
+    (λ striping room items j s. users_needed s.executor items.owners striping j (part_of room striping items j s) t)
     (λ s. ap (λ n. cond (is_on t s) n 0) (share_of_whole (pre_of s.executor)))
     options sequence plans segment entries whole sound all is
     (λ striping spread s range.
@@ -233,7 +228,7 @@ pub extra_owned_once : (options : Options) (sequence : List Frac) (plans : List 
 extra_owned_once options sequence plans segment entries whole sound all is t =
     owned_once (λ (part : Part). executor_extra part.executor part t) (added_at t)
     (λ (s : Scenario). cond (is_on t s) (max_of s.executor - pre_of s.executor) 0)
-    (λ striping room items j s. refl)
+    (λ striping room items j s. users_added s.executor items.owners striping j (part_of room striping items j s) t)
     (λ s. ap (λ n. cond (is_on t s) n 0)
     (let most = share_of_whole (max_of s.executor) in let planned = share_of_whole (pre_of s.executor) in omega arith))
     options sequence plans segment entries whole sound all is

@@ -1,16 +1,20 @@
 -- The items that a position owns of a scenario: how many they are, and which.
-use Rattle.std.proofs.Common.{◌≡◌, ◌<◌, ◌↔◌, ◌∙◌, ℕ, List, map, length, arith, refl, ap}
+use Rattle.std.proofs.Common.{◌≡◌, ◌<◌, ◌↔◌, ◌∙◌, ℕ, List, [], map, length, arith, refl, ap}
 use Rattle.std.specs.Prelude.{Contains}
 use Rattle.std.proofs.lemmas.List.{get_or-map, length-map}
 use Rattle.std.proofs.lemmas.List.Elements.{All-contains, All-contains_itself, All-map, All-weaker}
 use Rattle.ld_stripe.specs.Striping.{owner_at, share_at}
 use Rattle.ld_arrival.specs.Limits.{IsWithinLimits}
 use Rattle.ld_arrival.specs.Schedule.{owned_pairs, schedule}
-use Rattle.ld_arrival.specs.Timetable.{IsPlanned, moment_of, planned_count}
+use Rattle.ld_arrival.specs.Timetable.{Timetable, IsPlanned, moment_of, planned_count}
 use Rattle.ld_arrival.proofs.CountLemmas.{counted}
 use Rattle.ld_arrival.proofs.ScheduleLaws.{in_owned, in_schedule, owned_count}
 use Rattle.ld_machine.specs.Plan.{Arrival}
 use Rattle.ld_plan.specs.PlanView.{Whole, arrival_of, owned_arrivals}
+
+-- a scenario of these arrivals, whatever its name
+abbrev pub whole_with : Timetable → List ℕ → Whole
+whole_with timetable owners = record { name = []; timetable = timetable; owners = owners }
 
 -- the items of these arrivals
 abbrev pub items_of : List Arrival → List ℕ

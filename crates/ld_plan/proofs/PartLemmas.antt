@@ -1,5 +1,5 @@
 -- What a position owns of each scenario, and that there is one such list of parts.
-use Rattle.std.proofs.Common.{◌≡◌, ◌<◌, ◌≤◌, ◌∙◌, inl, inr, ℕ, List, [], ◌∷◌, length, slice_get, arith, ap, ap₂, refl, sym, subst}
+use Rattle.std.proofs.Common.{◌≡◌, ◌<◌, ◌∙◌, ℕ, List, [], ◌∷◌, length, slice_get, ap, ap₂, refl, sym, subst}
 use Rattle.std.specs.Prelude.{Some}
 use Rattle.std.specs.List.{AllByRecursion, AllZip}
 use Rattle.std.proofs.lemmas.Option.{slice_get_within}
@@ -9,48 +9,17 @@ use Rattle.ld_segment.specs.Segments.{segments_of}
 use Rattle.ld_segment.specs.declared.segment.Segment.{Segment}
 use Rattle.ld_segment.proofs.FillingLemmas.{one_position}
 use Rattle.ld_stripe.specs.Striping.{Striping, shares_at}
-use Rattle.ld_arrival.specs.Limits.{IsWithinLimits}
 use Rattle.ld_machine.specs.Plan.{Part}
 use Rattle.ld_options.specs.Ranges.{IsInRange, IsScenarioInRange}
-use Rattle.ld_options.specs.declared.executor.Executor.{Executor}
-use Rattle.ld_options.specs.declared.executor.Executor.TheVariants.{ConstantArrivals}
 use Rattle.ld_options.specs.declared.options.Options.{Options}
 use Rattle.ld_options.specs.declared.scenario.Scenario.{Scenario}
-use Rattle.ld_plan.specs.Executor.{timetable_of, pre_of, max_of}
+use Rattle.ld_plan.specs.Executor.{max_of}
 use Rattle.ld_plan.specs.IsPlanOf.{AreOwned, AreParts, IsPartOf, IsSound, part_of, sample_room, whole_of}
 use Rattle.ld_plan.specs.PartView.{PartView}
 use Rattle.ld_plan.specs.PlanView.{Whole}
+pub use Rattle.ld_plan.proofs.ExecutorLemmas.{pre_within, within_limits}
+use Rattle.ld_plan.proofs.ExecutorLemmas.{some_users}
 use Rattle.ld_plan.proofs.StripingLemmas.{IsSpread, one_rescaled, one_sequence_striping, sequence_spread, sequence_striping, striping_of}
-
--- numbers in their ranges: the timetable is within the limits
-pub within_limits : (e : Executor) → IsInRange e → IsWithinLimits (timetable_of e)
-within_limits (ConstantArrivals rate unit duration pre max) ranges =
-    let rates = ranges.rates in
-    let units = ranges.units in
-    let durations = ranges.durations in
-    let rate_least = rates.at_least in
-    let rate_most = rates.at_most in
-    let unit_least = units.at_least in
-    let unit_most = units.at_most in
-    let duration_least = durations.at_least in
-    let duration_most = durations.at_most in
-    record {
-      rate = λ bad. elim bad [ inl none ↦ absurd (omega arith) | inr over ↦ absurd (omega arith) ];
-      duration = λ bad. elim bad [
-        | inl unit_bad ↦ elim unit_bad [ inl none ↦ absurd (omega arith) | inr over ↦ absurd (omega arith) ]
-        | inr duration_bad ↦ elim duration_bad [ inl none ↦ absurd (omega arith) | inr over ↦ absurd (omega arith) ]
-      ];
-    }
-
--- some user may be there, at most 1,000, and no more are made before than there may be
-pub some_users : (e : Executor) → IsInRange e → 1 ≤ max_of e
-some_users (ConstantArrivals rate unit duration pre max) ranges = let users = ranges.users in users.at_least
-
-pub few_users : (e : Executor) → IsInRange e → max_of e ≤ 1000
-few_users (ConstantArrivals rate unit duration pre max) ranges = let users = ranges.users in users.at_most
-
-pub pre_within : (e : Executor) → IsInRange e → pre_of e ≤ max_of e
-pre_within (ConstantArrivals rate unit duration pre max) ranges = ranges.above_planned
 
 -- a position owns one part of a scenario
 one_part : (room : ℕ) (striping : Striping) (n j : ℕ) (s : Scenario) (a b : PartView) → IsSpread striping n → IsInRange s.executor →
@@ -98,7 +67,7 @@ one_parts options segment sequence p q ls ms sound of_a of_b =
     one_owned options of_b.striping (length (segments_of sequence)) q ls ms spread sound.in_range there of_b.owned
 
 -- there are parts
-parts_of_scenarios : (options : Options) (striping : Striping) (j : ℕ) (scenarios : List Scenario) →
+pub parts_of_scenarios : (options : Options) (striping : Striping) (j : ℕ) (scenarios : List Scenario) →
     (views : List PartView) × AllZip (λ (s : Scenario). IsPartOf (sample_room options.scripts.scripts s.script) striping j s) scenarios views
 parts_of_scenarios options striping j [] = ([], tt)
 parts_of_scenarios options striping j (s ∷ rest) =

@@ -1,5 +1,5 @@
 -- A segment of a test is accepted or has one refusal.
-use Rattle.std.proofs.Common.{◌≡◌, ◌<◌, ◌≤◌, ◌+◌, ◌*◌, ◌-◌, ◌^◌, ◌⊎◌, ◌∙◌, inl, inr, ℕ, zero, suc, List, [], ◌∷◌, length, slice_get, arith, ap, refl, sym}
+use Rattle.std.proofs.Common.{◌≡◌, ◌<◌, ◌-◌, ◌^◌, ◌⊎◌, ◌∙◌, inl, inr, ℕ, zero, suc, List, [], ◌∷◌, slice_get, arith, ap, refl, sym}
 use Rattle.std.specs.Prelude.{Some, min}
 use Rattle.std.proofs.Math.Decide.{dec_lt}
 use Rattle.std.proofs.lemmas.Option.{none-some, same_Some}
@@ -12,17 +12,17 @@ use Rattle.ld_segment.proofs.PointLemmas.{same_point}
 use Rattle.ld_segment.proofs.WeightsPeriodLemmas.{period_exists, period_unique}
 use Rattle.ld_arrival.specs.Limits.{most_arrivals}
 use Rattle.ld_arrival.specs.Timetable.{planned_count}
+use Rattle.ld_options.specs.Ranges.{most_users}
 use Rattle.ld_options.specs.declared.options.Options.{Options}
 use Rattle.ld_options.specs.declared.scenario.Scenario.{Scenario}
 use Rattle.ld_plan.specs.Executor.{timetable_of}
-use Rattle.ld_stripe.specs.Striping.{Striping}
-use Rattle.ld_machine.specs.Plan.{owned_items}
-use Rattle.ld_plan.specs.IsPlanOf.{AreOwned, IsSequenceStriping, IsSound}
-use Rattle.ld_plan.specs.PartView.{PartView, parts_of}
-use Rattle.ld_plan.specs.PlanFault.{AreFew, HasFirstMany, HasShortPeriod, IsAccepted, IsNeeded, IsRefusal, StandsAt, needed_entries}
+use Rattle.ld_plan.specs.IsPlanOf.{IsSound}
+use Rattle.ld_plan.specs.PartView.{parts_of}
+use Rattle.ld_plan.specs.PlanFault.{AreFew, HasFewUsers, HasFirstMany, HasShortPeriod, IsAccepted, IsNeeded, IsRefusal, IsWholeLimit, StandsAt, needed_entries}
 use Rattle.ld_plan.specs.declared.fault.PlanFault.{PlanFault}
-use Rattle.ld_plan.specs.declared.fault.PlanFault.TheVariants.{NotInSequence, PeriodTooLarge, TooManyArrivals, JournalTooSmall, Memory}
+use Rattle.ld_plan.specs.declared.fault.PlanFault.TheVariants.{NotInSequence, PeriodTooLarge, TooManyArrivals, TooManyUsers, JournalTooSmall, Memory}
 use Rattle.ld_plan.proofs.PartLemmas.{one_parts, some_parts}
+use Rattle.ld_plan.proofs.UsersLemmas.{one_whole_limit, some_whole_limit}
 
 -- ---- where the segment stands
 
@@ -117,16 +117,28 @@ abbrev Decided : Options → Segment → List Frac → ℕ → Type 0
 Decided options segment sequence entries =
     IsAccepted options segment sequence entries ⊎ ((fault : PlanFault) × IsRefusal options segment sequence entries fault)
 
--- with a place, a short period and few arrivals
+-- with a place, a short period, few arrivals and few users
 room_or_not : (options : Options) (segment : Segment) (sequence : List Frac) (entries : ℕ) → IsSound options sequence →
-    (j : ℕ) → StandsAt segment sequence j → HasShortPeriod sequence → AreFew options.scenarios → Decided options segment sequence entries
-room_or_not options segment sequence entries sound j stands short few =
+    (j : ℕ) → StandsAt segment sequence j → HasShortPeriod sequence → AreFew options.scenarios → HasFewUsers options →
+    Decided options segment sequence entries
+room_or_not options segment sequence entries sound j stands short few users =
     let found = some_parts options segment sequence j sound stands in
     let needed = needed_entries (parts_of found.0) in
     let is_needed : IsNeeded options segment sequence needed = record { position = j; views = found.0; are_parts = found.1; number = refl } in
     elim (dec_lt entries needed) [
-      | yes small ↦ inr (JournalTooSmall needed entries, (short, few, is_needed, small, refl))
-      | no room ↦ inl (record { short = short; few = few; needed = needed; is_needed = is_needed; room = omega arith })
+      | yes small ↦ inr (JournalTooSmall needed entries, (short, few, users, is_needed, small, refl))
+      | no room ↦ inl (record { short = short; few = few; users = users; needed = needed; is_needed = is_needed; room = omega arith })
+    ]
+
+-- with a place, a short period and few arrivals
+users_or_not : (options : Options) (segment : Segment) (sequence : List Frac) (entries : ℕ) → IsSound options sequence →
+    (j : ℕ) → StandsAt segment sequence j → HasShortPeriod sequence → AreFew options.scenarios → Decided options segment sequence entries
+users_or_not options segment sequence entries sound j stands short few =
+    let limit = some_whole_limit options sound.in_range in
+    elim (dec_lt most_users limit.0) [
+      | yes over ↦ inr (TooManyUsers limit.0, ((j, stands), short, few, limit.1, over))
+      | no within ↦
+          room_or_not options segment sequence entries sound j stands short few (record { limit = limit.0; is_limit = limit.1; few = omega arith })
     ]
 
 -- with a place and a short period
@@ -134,7 +146,7 @@ few_or_not : (options : Options) (segment : Segment) (sequence : List Frac) (ent
     (j : ℕ) → StandsAt segment sequence j → HasShortPeriod sequence → Decided options segment sequence entries
 few_or_not options segment sequence entries sound j stands short = elim (few_or_many options.scenarios) [
   | inr many ↦ inr (TooManyArrivals many.0 many.1, ((j, stands), short, many.2))
-  | inl few ↦ room_or_not options segment sequence entries sound j stands short few
+  | inl few ↦ users_or_not options segment sequence entries sound j stands short few
 ]
 
 pub accepted_or_refused : (options : Options) (segment : Segment) (sequence : List Frac) (entries : ℕ) → IsSound options sequence →
@@ -149,25 +161,6 @@ accepted_or_refused options segment sequence entries sound = elim (stands_or_not
       ]
 ]
 
--- a segment with one part is accepted where there is room for its entries
-pub accepted_of_one : (options : Options) (segment : Segment) (sequence : List Frac) (entries position : ℕ) (striping : Striping) (view : PartView) →
-    StandsAt segment sequence position → IsSequenceStriping sequence striping → HasShortPeriod sequence → AreFew options.scenarios →
-    AreOwned options striping position (view ∷ []) → 2 * length (owned_items view.part.executor) + 1 ≤ entries →
-    IsAccepted options segment sequence entries
-accepted_of_one options segment sequence entries position striping view stands striped short few owned room =
-    record { short = short; few = few; needed = needed; is_needed = is_needed; room = omega arith }
-  where
-    needed : ℕ
-    needed = needed_entries (parts_of (view ∷ []))
-
-    is_needed : IsNeeded options segment sequence needed
-    is_needed = record {
-      position = position;
-      views = view ∷ [];
-      are_parts = record { stands = stands; striping = striping; striped = striped; owned = owned };
-      number = refl;
-    }
-
 -- ---- not both
 
 -- a period is short or long
@@ -175,6 +168,14 @@ short_not_long : (sequence : List Frac) (long told : ℕ) → (options : Options
 short_not_long sequence long told options sound short has over =
     let same = period_unique sequence short.period long sound.filled short.has has in
     let within = short.short in
+    omega arith
+
+-- the users are few or too many
+few_not_many_users : (options : Options) (sequence : List Frac) (told : ℕ) → IsSound options sequence → HasFewUsers options →
+    IsWholeLimit options told → most_users < told → ⊥
+few_not_many_users options sequence told sound users is over =
+    let same = one_whole_limit options users.limit told sound.in_range users.is_limit is in
+    let few = users.few in
     omega arith
 
 -- the segment needs one number of entries
@@ -194,10 +195,12 @@ accepted_not_refused options segment sequence entries sound (PeriodTooLarge told
     short_not_long sequence refused.1.0 told options sound has.short refused.1.1 refused.1.2
 accepted_not_refused options segment sequence entries sound (TooManyArrivals n told) has refused =
     few_not_many options.scenarios n told has.few refused.2
+accepted_not_refused options segment sequence entries sound (TooManyUsers told) has refused =
+    few_not_many_users options sequence told sound has.users refused.3 refused.4
 accepted_not_refused options segment sequence entries sound (JournalTooSmall needed limit) has refused =
-    let same = one_needed options segment sequence has.needed needed sound has.is_needed refused.2 in
+    let same = one_needed options segment sequence has.needed needed sound has.is_needed refused.3 in
     let room = has.room in
-    let small = refused.3 in
+    let small = refused.4 in
     omega arith
 accepted_not_refused options segment sequence entries sound Memory has refused = refused
 
@@ -208,8 +211,9 @@ pub one_refusal : (options : Options) (segment : Segment) (sequence : List Frac)
 one_refusal options segment sequence entries sound NotInSequence NotInSequence of_a of_b = refl
 one_refusal options segment sequence entries sound NotInSequence (PeriodTooLarge told) of_a of_b = absurd (of_a of_b.0.0 of_b.0.1)
 one_refusal options segment sequence entries sound NotInSequence (TooManyArrivals n told) of_a of_b = absurd (of_a of_b.0.0 of_b.0.1)
+one_refusal options segment sequence entries sound NotInSequence (TooManyUsers told) of_a of_b = absurd (of_a of_b.0.0 of_b.0.1)
 one_refusal options segment sequence entries sound NotInSequence (JournalTooSmall needed limit) of_a of_b =
-    absurd (of_a of_b.2.position of_b.2.are_parts.stands)
+    absurd (of_a of_b.3.position of_b.3.are_parts.stands)
 one_refusal options segment sequence entries sound NotInSequence Memory of_a of_b = absurd of_b
 one_refusal options segment sequence entries sound (PeriodTooLarge told) NotInSequence of_a of_b = absurd (of_b of_a.0.0 of_a.0.1)
 one_refusal options segment sequence entries sound (PeriodTooLarge told) (PeriodTooLarge other) of_a of_b =
@@ -218,6 +222,8 @@ one_refusal options segment sequence entries sound (PeriodTooLarge told) (Period
     ∙ ap (λ (p : ℕ). min p (2 ^ 64 - 1)) (period_unique sequence of_a.1.0 of_b.1.0 sound.filled of_a.1.1 of_b.1.1)
     ∙ sym of_b.1.3)
 one_refusal options segment sequence entries sound (PeriodTooLarge told) (TooManyArrivals n other) of_a of_b =
+    absurd (short_not_long sequence of_a.1.0 told options sound of_b.1 of_a.1.1 of_a.1.2)
+one_refusal options segment sequence entries sound (PeriodTooLarge told) (TooManyUsers other) of_a of_b =
     absurd (short_not_long sequence of_a.1.0 told options sound of_b.1 of_a.1.1 of_a.1.2)
 one_refusal options segment sequence entries sound (PeriodTooLarge told) (JournalTooSmall needed limit) of_a of_b =
     absurd (short_not_long sequence of_a.1.0 told options sound of_b.0 of_a.1.1 of_a.1.2)
@@ -228,17 +234,31 @@ one_refusal options segment sequence entries sound (TooManyArrivals n told) (Per
 one_refusal options segment sequence entries sound (TooManyArrivals n told) (TooManyArrivals m other) of_a of_b =
     let same = one_first_many options.scenarios n m told other of_a.2 of_b.2 in
     ap (λ (k : ℕ). TooManyArrivals k told) same.place ∙ ap (TooManyArrivals m) same.number
+one_refusal options segment sequence entries sound (TooManyArrivals n told) (TooManyUsers other) of_a of_b =
+    absurd (few_not_many options.scenarios n told of_b.2 of_a.2)
 one_refusal options segment sequence entries sound (TooManyArrivals n told) (JournalTooSmall needed limit) of_a of_b =
     absurd (few_not_many options.scenarios n told of_b.1 of_a.2)
 one_refusal options segment sequence entries sound (TooManyArrivals n told) Memory of_a of_b = absurd of_b
+one_refusal options segment sequence entries sound (TooManyUsers told) NotInSequence of_a of_b = absurd (of_b of_a.0.0 of_a.0.1)
+one_refusal options segment sequence entries sound (TooManyUsers told) (PeriodTooLarge other) of_a of_b =
+    absurd (short_not_long sequence of_b.1.0 other options sound of_a.1 of_b.1.1 of_b.1.2)
+one_refusal options segment sequence entries sound (TooManyUsers told) (TooManyArrivals n other) of_a of_b =
+    absurd (few_not_many options.scenarios n other of_a.2 of_b.2)
+one_refusal options segment sequence entries sound (TooManyUsers told) (TooManyUsers other) of_a of_b =
+    ap TooManyUsers (one_whole_limit options told other sound.in_range of_a.3 of_b.3)
+one_refusal options segment sequence entries sound (TooManyUsers told) (JournalTooSmall needed limit) of_a of_b =
+    absurd (few_not_many_users options sequence told sound of_b.2 of_a.3 of_a.4)
+one_refusal options segment sequence entries sound (TooManyUsers told) Memory of_a of_b = absurd of_b
 one_refusal options segment sequence entries sound (JournalTooSmall needed limit) NotInSequence of_a of_b =
-    absurd (of_b of_a.2.position of_a.2.are_parts.stands)
+    absurd (of_b of_a.3.position of_a.3.are_parts.stands)
 one_refusal options segment sequence entries sound (JournalTooSmall needed limit) (PeriodTooLarge told) of_a of_b =
     absurd (short_not_long sequence of_b.1.0 told options sound of_a.0 of_b.1.1 of_b.1.2)
 one_refusal options segment sequence entries sound (JournalTooSmall needed limit) (TooManyArrivals n told) of_a of_b =
     absurd (few_not_many options.scenarios n told of_a.1 of_b.2)
+one_refusal options segment sequence entries sound (JournalTooSmall needed limit) (TooManyUsers told) of_a of_b =
+    absurd (few_not_many_users options sequence told sound of_a.2 of_b.3 of_b.4)
 one_refusal options segment sequence entries sound (JournalTooSmall needed limit) (JournalTooSmall other most) of_a of_b =
-    ap (λ (k : ℕ). JournalTooSmall k limit) (one_needed options segment sequence needed other sound of_a.2 of_b.2)
-    ∙ ap (JournalTooSmall other) (of_a.4 ∙ sym of_b.4)
+    ap (λ (k : ℕ). JournalTooSmall k limit) (one_needed options segment sequence needed other sound of_a.3 of_b.3)
+    ∙ ap (JournalTooSmall other) (of_a.5 ∙ sym of_b.5)
 one_refusal options segment sequence entries sound (JournalTooSmall needed limit) Memory of_a of_b = absurd of_b
 one_refusal options segment sequence entries sound Memory b of_a of_b = absurd of_a

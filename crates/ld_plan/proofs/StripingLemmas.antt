@@ -1,9 +1,11 @@
 -- Weights have one striping, a filled sequence has one, and so have the items of a scenario.
-use Rattle.std.proofs.Common.{◌≡◌, ◌<◌, ◌≤◌, ◌*◌, ◌/◌, ◌%◌, ◌∙◌, ℕ, zero, suc, List, [], ◌∷◌, length, get_or, map, nat_eq, take, arith, ap, ap₂, sym, subst, add-one}
+use Rattle.std.proofs.Common.{◌≡◌, ◌<◌, ◌≤◌, ◌+◌, ◌*◌, ◌/◌, ◌%◌, ◌∙◌, ℕ, zero, suc, List, [], ◌∷◌, length, get_or, map, nat_eq, take, arith, ap, ap₂, refl, sym, subst, add-one}
 use Rattle.std.specs.Prelude.{All, sum}
 use Rattle.std.proofs.Math.Decide.{dec_lt}
 use Rattle.std.proofs.lemmas.Bool.Decides.{nat_tests}
 use Rattle.std.proofs.lemmas.List.{length-map, take_all}
+use Rattle.std.proofs.lemmas.List.Elements.{All-cons, All-nil}
+use Rattle.std.specs.List.{range_with_len}
 use Rattle.std.proofs.lemmas.List.FromFn.{length-map-range_with_len}
 use Rattle.std.proofs.lemmas.List.Quantifiers.{position-Some}
 use Rattle.ld_num.specs.declared.fraction.Frac.{Frac}
@@ -22,6 +24,7 @@ use Rattle.ld_stripe.specs.declared.fault.StripeFault.TheVariants as stripes
 use Rattle.ld_stripe.proofs.DueLemmas.{owners_in_range}
 use Rattle.ld_stripe.proofs.LowestTermsLemmas.{greatest_more, greatest_none, lowest_terms, one_form, period_at_most, period_positive, sum_positive}
 use Rattle.ld_stripe.proofs.StripingLaws.{share-suc, shares_sum, striping_exists, striping_unique}
+use Rattle.ld_stripe.proofs.RescaleLaws.{rescaled_share}
 use Rattle.std.proofs.Math.Nat.{mod-lt}
 use Rattle.ld_plan.specs.IsPlanOf.{IsSequenceStriping}
 
@@ -104,6 +107,11 @@ some_weights : (weights : List ℕ) → 0 < sum weights → 0 < length weights
 some_weights [] positive = absurd (omega arith)
 some_weights (w ∷ ws) positive = omega arith
 
+-- the weight of the one position of a test that isn't cut is accepted
+pub one_weight_accepted : (f : StripeFault) → stripe.IsRefusal (1 ∷ []) f → ⊥
+one_weight_accepted f refused =
+    striping_accepts (1 ∷ []) (omega arith) (omega arith) (All-cons (λ w. 0 < w) 1 [] (omega arith) (All-nil (λ w. 0 < w))) (omega arith) f refused
+
 -- weights of a filled sequence are accepted
 pub weights_accepted : (points : List Frac) (weights : List ℕ) → HasWeights points (sum weights) weights → sum weights ≤ greatest_period →
     length weights ≤ most_segments → All (λ w. 0 < w) weights → (f : StripeFault) → stripe.IsRefusal weights f → ⊥
@@ -168,6 +176,21 @@ shares_some s n v spread some = let all = shares_sum s.weights s.owners spread.s
 -- so a striping that is rescaled is one alone
 pub one_rescaled : (s a b : Striping) (n v : ℕ) → IsSpread s n → 1 ≤ v → IsStripingOf (shares_at s v) a → IsStripingOf (shares_at s v) b → a ≡ b
 one_rescaled s a b n v spread some of_a of_b = one_striping (shares_at s v) a b (shares_some s n v spread some) of_a of_b
+
+-- the shares of as many indices by the rescaled striping are the same, so rescaling it once more leaves it
+same_on_range : (f g : ℕ → ℕ) (a n : ℕ) → ((j : ℕ) → j < a + n → f j ≡ g j) → map f (range_with_len a n) ≡ map g (range_with_len a n)
+same_on_range f g a zero same = refl
+same_on_range f g a (suc n) same =
+    ap₂ (λ x xs. x ∷ xs) (same a (omega arith)) (same_on_range f g (a + 1) n (λ j inside. same j (omega arith)))
+
+pub rescaled_again : (s r : Striping) (n v : ℕ) → IsSpread s n → IsSpread r n → IsStripingOf (shares_at s v) r → IsStripingOf (shares_at r v) r
+rescaled_again s r n v spread rescaled of =
+    let long = spread.positions in
+    let shares =
+    ap (λ k. map (λ j. share_at r.owners j v) (range_with_len 0 k)) (rescaled.positions ∙ sym spread.positions)
+    ∙ same_on_range (λ j. share_at r.owners j v) (λ j. share_at s.owners j v) 0 (length s.weights)
+    (λ j inside. rescaled_share s r v spread.striping spread.some of j (omega arith)) in
+    subst (λ ws. IsStripingOf ws r) (sym shares) of
 
 -- and gives each index to one of the positions
 pub rescaled_spread : (s r : Striping) (n v : ℕ) → IsSpread s n → 1 ≤ v → IsStripingOf (shares_at s v) r → IsSpread r n

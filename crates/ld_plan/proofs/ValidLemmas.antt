@@ -1,5 +1,5 @@
 -- The part of a scenario whose numbers are in their ranges is valid: its items rise.
-use Rattle.std.proofs.Common.{◌≡◌, ◌<◌, ◌+◌, ◌==◌, ◌∙◌, ℕ, Bool, true, false, cond, List, [], ◌∷◌, length, map, filter, slice_index, arith, refl, ap, sym, subst}
+use Rattle.std.proofs.Common.{◌≡◌, ◌∙◌, ◌+◌, ◌==◌, ℕ, Bool, true, false, cond, List, [], ◌∷◌, map, filter, slice_index, arith, refl, ap, sym, subst}
 use Rattle.std.specs.Prelude.{nat_lt}
 use Rattle.std.specs.List.{range_with_len}
 use Rattle.std.specs.List.Sorted.{IsStrictlyIncreasing}
@@ -15,6 +15,7 @@ use Rattle.ld_options.specs.declared.scenario.Scenario.{Scenario}
 use Rattle.ld_plan.specs.Executor.{timetable_of}
 use Rattle.ld_plan.specs.IsPlanOf.{part_of}
 use Rattle.ld_plan.specs.PlanView.{arrival_of}
+use Rattle.ld_plan.proofs.ExecutorLemmas.{items_owned, not_external, slots_owned}
 use Rattle.ld_plan.proofs.TimedLemmas.{part_timed}
 
 -- numbers in a row rise
@@ -46,10 +47,12 @@ owned_are timetable owners j (k ∷ rest) =
 pub part_valid : (room : ℕ) (striping items : Striping) (j : ℕ) (s : Scenario) → IsScenarioInRange s → IsValidPart (part_of room striping items j s)
 part_valid room striping items j s range =
     let timetable = timetable_of s.executor in
+    let owned = items_owned s.executor items.owners striping j ∙ owned_are timetable items.owners j (planned timetable) in
+    let none = not_external s.executor items.owners striping j in
     record {
       timed = part_timed room striping items j s range;
-      items = subst IsStrictlyIncreasing (sym (owned_are timetable items.owners j (planned timetable)))
+      items = subst IsStrictlyIncreasing (sym owned)
           (IsStrictlyIncreasing-filter (λ k. owner_at items.owners k == j) (planned timetable) (planned_rise timetable));
-      slots = λ k within. absurd (omega arith);
+      slots = subst IsStrictlyIncreasing (sym (slots_owned s.executor items.owners striping j)) (λ k within. absurd (omega arith));
       external = λ is. absurd (cc);
     }

@@ -8,17 +8,17 @@ use Rattle.ld_segment.specs.Refusal.{ends}
 use Rattle.ld_segment.specs.Segments.{IsSequence, segments_of}
 use Rattle.ld_segment.specs.Weights.{HasWeights}
 use Rattle.ld_segment.specs.declared.segment.Segment.{Segment}
-use Rattle.ld_stripe.specs.Striping.{Striping, IsStripingOf, share_at, shares_at}
+use Rattle.ld_stripe.specs.Striping.{Striping, IsStripingOf, shares_at}
 use Rattle.ld_arrival.specs.Timetable.{end_of, planned_count}
 use Rattle.ld_machine.specs.Moment.{moment_after}
-use Rattle.ld_machine.specs.Plan.{ArrivalRate, Part}
+use Rattle.ld_machine.specs.Plan.{Part}
 use Rattle.ld_script.specs.declared.script.Script.{Script}
 use Rattle.ld_options.specs.Ranges.{AreInRange}
 use Rattle.ld_options.specs.declared.options.Options.{Options}
 use Rattle.ld_options.specs.declared.scenario.Scenario.{Scenario}
-use Rattle.ld_plan.specs.Executor.{timetable_of, pre_of, max_of}
+use Rattle.ld_plan.specs.Executor.{max_of, owned_executor, timetable_of}
 use Rattle.ld_plan.specs.PartView.{PartView, parts_of, wholes_of}
-use Rattle.ld_plan.specs.PlanView.{PlanView, Whole, owned_arrivals}
+use Rattle.ld_plan.specs.PlanView.{PlanView, Whole}
 use Rattle.ld_machine.specs.Requirement.{IsRequirement}
 
 -- the positions of a sequence own what the striping of its weights gives them
@@ -54,11 +54,7 @@ part_of room striping items j scenario =
       grace = scenario.grace;
       sample_room = room;
       whole_items = planned_count (timetable_of scenario.executor);
-      executor =
-          ArrivalRate
-          (share_at striping.owners j (pre_of scenario.executor))
-          (share_at striping.owners j (max_of scenario.executor))
-          (owned_arrivals (whole_of items scenario) j);
+      executor = owned_executor scenario.executor items.owners striping j;
     }
 
 -- this is what position j owns of a scenario whose iterations give so many samples at most

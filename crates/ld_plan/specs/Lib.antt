@@ -1,7 +1,11 @@
-pub mod Executor
-pub mod Row
 pub mod PlanView
+pub mod Executor
+pub mod Need
+pub mod Row
 pub mod PartView
+pub mod OwnedItems
+pub mod OwnedArrivals
+pub mod OwnedPart
 pub mod IsPlanOf
 pub mod Whole
 pub mod Part

@@ -10,13 +10,15 @@ use Rattle.ld_segment.specs.declared.segment.Segment.{Segment}
 use Rattle.ld_arrival.specs.Limits.{most_arrivals}
 use Rattle.ld_arrival.specs.Timetable.{Timetable, planned_count}
 use Rattle.ld_machine.specs.Plan.{Part, owned_items}
+use Rattle.ld_machine.specs.Requirement.{IsRequirement}
+use Rattle.ld_options.specs.Ranges.{most_users}
 use Rattle.ld_options.specs.declared.options.Options.{Options}
 use Rattle.ld_options.specs.declared.scenario.Scenario.{Scenario}
 use Rattle.ld_plan.specs.Executor.{timetable_of}
-use Rattle.ld_plan.specs.IsPlanOf.{AreParts}
+use Rattle.ld_plan.specs.IsPlanOf.{AreOwned, AreParts, whole_striping}
 use Rattle.ld_plan.specs.PartView.{PartView, parts_of}
 use Rattle.ld_plan.specs.declared.fault.PlanFault.{PlanFault}
-use Rattle.ld_plan.specs.declared.fault.PlanFault.TheVariants.{NotInSequence, PeriodTooLarge, TooManyArrivals, JournalTooSmall, Memory}
+use Rattle.ld_plan.specs.declared.fault.PlanFault.TheVariants.{NotInSequence, PeriodTooLarge, TooManyArrivals, TooManyUsers, JournalTooSmall, Memory}
 
 -- the segment stands at this position of the sequence
 abbrev pub StandsAt : Segment → List Frac → ℕ → Type 0
@@ -33,6 +35,7 @@ abbrev pub IsLongPeriod : List Frac → PlanFault → Type 0
 IsLongPeriod sequence (PeriodTooLarge told) = IsPeriodRefusal sequence (segments.PeriodTooLarge told)
 IsLongPeriod sequence NotInSequence = ⊥
 IsLongPeriod sequence (TooManyArrivals scenario told) = ⊥
+IsLongPeriod sequence (TooManyUsers told) = ⊥
 IsLongPeriod sequence (JournalTooSmall needed limit) = ⊥
 IsLongPeriod sequence Memory = ⊥
 
@@ -50,6 +53,7 @@ abbrev pub IsManyOf : Timetable → ℕ → PlanFault → Type 0
 IsManyOf timetable n (TooManyArrivals scenario told) = (scenario ≡ n) × HasTooMany timetable told
 IsManyOf timetable n NotInSequence = ⊥
 IsManyOf timetable n (PeriodTooLarge told) = ⊥
+IsManyOf timetable n (TooManyUsers told) = ⊥
 IsManyOf timetable n (JournalTooSmall needed limit) = ⊥
 IsManyOf timetable n Memory = ⊥
 
@@ -63,8 +67,32 @@ abbrev pub IsFirstMany : List Scenario → PlanFault → Type 0
 IsFirstMany scenarios (TooManyArrivals n told) = HasFirstMany scenarios n told
 IsFirstMany scenarios NotInSequence = ⊥
 IsFirstMany scenarios (PeriodTooLarge told) = ⊥
+IsFirstMany scenarios (TooManyUsers told) = ⊥
 IsFirstMany scenarios (JournalTooSmall needed limit) = ⊥
 IsFirstMany scenarios Memory = ⊥
+
+-- All scenarios of the whole test together may have so many users at most at one moment: the one position of a
+-- test that isn't cut needs them.
+pub record IsWholeLimit (options : Options) (limit : ℕ) : Type 0 where
+  pub views : List PartView
+  pub owned : AreOwned options whole_striping 0 views
+  pub planned : ℕ
+  pub users : IsRequirement (parts_of views) planned limit
+
+-- they are few enough
+pub record HasFewUsers (options : Options) : Type 0 where
+  pub limit : ℕ
+  pub is_limit : IsWholeLimit options limit
+  pub few : limit ≤ most_users
+
+-- the fault says that they are too many
+abbrev pub IsManyUsers : Options → PlanFault → Type 0
+IsManyUsers options (TooManyUsers told) = IsWholeLimit options told × (most_users < told)
+IsManyUsers options NotInSequence = ⊥
+IsManyUsers options (PeriodTooLarge told) = ⊥
+IsManyUsers options (TooManyArrivals scenario told) = ⊥
+IsManyUsers options (JournalTooSmall needed limit) = ⊥
+IsManyUsers options Memory = ⊥
 
 -- how many entries a journal may need: two for each owned item, and one for each scenario
 abbrev pub needed_entries : List Part → ℕ
@@ -87,9 +115,16 @@ IsRefusal options segment sequence entries (TooManyArrivals scenario told) =
     ((j : ℕ) × StandsAt segment sequence j)
     × HasShortPeriod sequence
     × HasFirstMany options.scenarios scenario told
+IsRefusal options segment sequence entries (TooManyUsers told) =
+    ((j : ℕ) × StandsAt segment sequence j)
+    × HasShortPeriod sequence
+    × AreFew options.scenarios
+    × IsWholeLimit options told
+    × (most_users < told)
 IsRefusal options segment sequence entries (JournalTooSmall needed limit) =
     HasShortPeriod sequence
     × AreFew options.scenarios
+    × HasFewUsers options
     × IsNeeded options segment sequence needed
     × (entries < needed)
     × (limit ≡ entries)
@@ -99,6 +134,7 @@ IsRefusal options segment sequence entries Memory = ⊥
 pub record IsAccepted (options : Options) (segment : Segment) (sequence : List Frac) (entries : ℕ) : Type 0 where
   pub short : HasShortPeriod sequence
   pub few : AreFew options.scenarios
+  pub users : HasFewUsers options
   pub needed : ℕ
   pub is_needed : IsNeeded options segment sequence needed
   pub room : needed ≤ entries

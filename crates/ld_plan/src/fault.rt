@@ -19,6 +19,10 @@ pub enum PlanFault {
     /// 2^64 - 1 where they are more than that.
     #[error("scenario {scenario} has {count} arrivals, which is too many")]
     TooManyArrivals { scenario: u16, count: u64 },
+    /// All scenarios together may have so many users at one moment of the whole test, which is more than
+    /// 1,000.
+    #[error("there may be {0} users at once, which is too many")]
+    TooManyUsers(u32),
     /// A journal of the owned items may need so many entries, which is more than the limit.
     #[error("a journal needs {needed} entries, and has room for {limit}")]
     JournalTooSmall { needed: u64, limit: u32 },

@@ -1,16 +1,19 @@
 // The laws of plans.
-ghost use Rattle.std.specs.Prelude.{◌≡◌, ◌≤◌, ◌⊎◌, ◌∷◌, [], ℕ, List, Some, IsPermutation, map, slice_get, sum_by};
+ghost use Rattle.std.specs.Prelude.{◌≡◌, ◌≤◌, ◌⊎◌, ◌∷◌, [], ℕ, List, Some, false, IsPermutation, map, slice_get, sum_by};
 ghost use Rattle.std.specs.List.{flat_map};
 ghost use Rattle.ld_num.specs.declared.fraction.Frac.{Frac};
 ghost use Rattle.ld_segment.specs.Segments.{one_point, zero_point};
 ghost use Rattle.ld_segment.specs.declared.segment.Segment.{Segment};
 ghost use Rattle.ld_stripe.specs.Striping.{IsStripingOf, shares_at};
 ghost use Rattle.ld_arrival.specs.Schedule.{schedule};
+ghost use Rattle.ld_machine.specs.Plan.{Part, is_external};
 ghost use Rattle.ld_machine.specs.Requirement.{extra, need};
+ghost use Rattle.ld_machine.specs.State.{opening_controls};
 ghost use Rattle.ld_options.specs.declared.options.Options.{Options};
 ghost use Rattle.ld_options.specs.declared.scenario.Scenario.{Scenario};
 ghost use Rattle.ld_plan.specs.Executor.{max_of, pre_of, timetable_of};
 ghost use Rattle.ld_plan.specs.IsPlanOf.{IsPlanOf, IsSequenceStriping, IsSound, whole_striping};
+ghost use Rattle.ld_plan.specs.Plan.{IsMade};
 ghost use Rattle.ld_plan.specs.PlanFault.{IsAccepted, IsRefusal};
 ghost use Rattle.ld_plan.specs.PlanView.{PlanView, arrival_of};
 ghost use Rattle.ld_plan.specs.Whole.{AreAllPlans, arrivals_at, most_users_at, users_at};
@@ -71,4 +74,12 @@ pub fn requirement_owned_once()
     ensures extra { (options : Options) (sequence : List Frac) (plans : List PlanView) (segment : Segment) (entries : ℕ) (whole : PlanView) →
         IsSound options sequence → AreAllPlans options sequence plans → IsPlanOf options segment (zero_point ∷ one_point ∷ []) entries whole →
         (t : ℕ) → sum_by (λ (seen : PlanView). extra seen.plan.parts t) plans ≡ extra whole.plan.parts t }
+{}
+
+/// No scenario of a plan is controlled from outside, and so no controls are set at the opening.
+pub fn no_external()
+    ensures external { (seen : PlanView) → IsMade seen → (n : ℕ) (part : Part) → slice_get seen.plan.parts n ≡ Some part →
+        is_external part.executor ≡ false }
+    ensures controls { (seen : PlanView) → IsMade seen →
+        opening_controls seen.plan.parts ≡ record { paused = false; vus = 0; vus_max = 0 } }
 {}

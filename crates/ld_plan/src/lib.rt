@@ -4,7 +4,11 @@
 mod executor;
 mod fault;
 mod laws;
+mod need;
 mod owned;
+mod owned_arrivals;
+mod owned_items;
+mod owned_part;
 mod part;
 mod plan;
 mod row;
@@ -13,9 +17,10 @@ mod users;
 
 pub use fault::PlanFault;
 pub use laws::{
-    accepted_or_refused, items_owned_once, one_plan, one_position, one_refusal,
+    accepted_or_refused, items_owned_once, no_external, one_plan, one_position, one_refusal,
     requirement_owned_once, users_owned_once,
 };
+pub use owned_part::OwnedPart;
 pub use plan::Plan;
 pub use row::Row;
 pub use users::Users;

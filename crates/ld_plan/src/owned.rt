@@ -1,23 +1,28 @@
 // What a segment of a sequence owns of a test.
-ghost use Rattle.std.specs.Prelude.{◌≡◌, ◌≢◌, ◌<◌, ◌∷◌, [], length, sum, IfErr, IfOk};
+ghost use Rattle.std.specs.Prelude.{◌≡◌, ◌≢◌, ◌<◌, ◌≤◌, length, sum, IfErr, IfOk, OnOk};
 ghost use Rattle.ld_segment.specs.Points.{IsFilled};
 ghost use Rattle.ld_stripe.specs.Striping.{IsStriping};
-ghost use Rattle.ld_options.specs.Ranges.{AreInRange};
+ghost use Rattle.ld_options.specs.Ranges.{AreInRange, most_scenarios};
 ghost use Rattle.ld_options.specs.declared.options.Options.{Options};
 ghost use Rattle.ld_plan.specs.IsPlanOf.{sample_room, AreOwned};
 ghost use Rattle.ld_plan.specs.Plan.{IsOwned};
-ghost use Rattle.ld_plan.specs.PlanFault.{AreFew, IsFirstMany, IsRefusal};
+ghost use Rattle.ld_plan.specs.PartView.{parts_of};
+ghost use Rattle.ld_plan.specs.PlanFault.{AreFew, HasFewUsers, IsFirstMany, IsManyUsers, IsRefusal, needed_entries};
 ghost use Rattle.ld_plan.specs.declared.fault.PlanFault.TheVariants.{Memory};
 
 use crate::fault::PlanFault;
+use crate::need::users_of;
 use crate::part::Part;
-use crate::striping::of_sequence;
+use crate::striping::{of_sequence, of_whole};
 use crate::users::Users;
 use ld_options::Options;
 use ld_script::Scripts;
 use ld_segment::{Segment, Sequence};
 use ld_stripe::Stripe;
-use std::alloc::{AllocError, Global};
+use std::alloc::Global;
+
+/// How many users a test may have at one moment.
+const MOST_USERS: u32 = 1000;
 
 /// What an instance owns: its position, its part of each scenario, and how many users these need.
 #[derive(Drop)]
@@ -43,50 +48,72 @@ pub fn owned_of(
         return Err(PlanFault::NotInSequence);
     };
     let positions = of_sequence(alloc, sequence)?;
-    let part = owned_part(alloc, options, positions, position)?;
-    let needed = 2 * part.owned() + 1;
+    let parts = owned_parts(alloc, options, &positions, position)?;
+    few_users(alloc, options)?;
+    let needed = needed_entries(&parts);
     if needed > entries as u64 {
         return Err(PlanFault::JournalTooSmall {
             needed,
             limit: entries,
         });
     }
-    let users = part.requirement();
+    let users = users_of(options.scenarios.as_slice(), &positions, position);
     Ok(Owned {
         position,
-        parts: one_part(alloc, part)?,
+        parts,
         users,
     })
 }
 
-// The list of one part.
-fn one_part(alloc: Global, part: Part) -> Result<Vec<Part>, AllocError>
-    ensures { IfOk result (λ parts. parts.items ≡ part ∷ []) }
-{
-    match Vec::from_array(alloc, [part]) {
-        Ok(parts) => Ok(parts),
-        Err(failed) => Err(AllocError::from(failed)),
-    }
-}
-
-// What a position owns of the one scenario of a test.
-fn owned_part(
+// What a position owns of each scenario of a test.
+fn owned_parts(
     alloc: Global,
     options: &Options,
-    positions: Stripe,
+    positions: &Stripe,
     position: usize,
-) -> Result<Part, PlanFault>
-    requires striping { IsStriping positions.weights positions.owners }
-    requires some { 0 < sum positions.weights }
-    requires inside { position < length positions.weights }
-    ensures owned { IfOk result (λ part. AreOwned options.now positions position (part ∷ [])) }
+) -> Result<Vec<Part>, PlanFault>
+    requires striping { IsStriping positions.now.weights positions.now.owners }
+    requires some { 0 < sum positions.now.weights }
+    requires inside { position < length positions.now.weights }
+    ensures owned { IfOk result (λ parts. AreOwned options.now positions.now position parts.items) }
     ensures few { IfOk result (λ _. AreFew options.now.scenarios) }
     ensures in_range { IfOk result (λ _. AreInRange options.now.scenarios) }
     ensures refused { IfErr result (λ f. f ≢ Memory → IsFirstMany options.now.scenarios f) }
 {
-    let scenario = &options.scenarios.as_slice()[0];
-    let room = sample_room(&options.scripts, scenario.script);
-    Part::of(alloc, 0, scenario, room, positions, position)
+    let mut parts = Vec::new(alloc);
+    for (number, scenario) in options.scenarios.as_slice().iter().enumerate() {
+        let room = sample_room(&options.scripts, scenario.script);
+        let part = Part::of(alloc, number as u16, scenario, room, positions, position)?;
+        let Ok(()) = parts.push(part) else {
+            return Err(PlanFault::Memory);
+        };
+    }
+    Ok(parts)
+}
+
+// Refuses a test that may have too many users at one moment, of whose scenarios the whole is looked at.
+fn few_users(alloc: Global, options: &Options) -> Result<(), PlanFault>
+    ensures few { OnOk result (HasFewUsers options.now) }
+    ensures refused { IfErr result (λ f. f ≢ Memory → IsManyUsers options.now f) }
+{
+    let whole = of_whole(alloc)?;
+    let users = users_of(options.scenarios.as_slice(), &whole, 0);
+    if users.limit > MOST_USERS {
+        return Err(PlanFault::TooManyUsers(users.limit));
+    }
+    Ok(())
+}
+
+// How many entries a journal of these parts may need.
+fn needed_entries(parts: &[Part]) -> u64
+    requires { length parts.now ≤ most_scenarios }
+    ensures { result ≡ needed_entries (parts_of parts.now) }
+{
+    let mut needed = 0;
+    for part in parts {
+        needed += 2 * part.owned() + 1;
+    }
+    needed
 }
 
 // How many samples an iteration of a script may give.

@@ -1,19 +1,19 @@
 ghost use Rattle.std.specs.Prelude.{◌≡◌, ◌<◌, ◌≤◌};
 
-use crate::executor::{arrivals_of, numbers_of};
+use crate::executor::length_of;
 use crate::fault::PlanFault;
+use crate::owned_items::OwnedItems;
+use crate::owned_part::OwnedPart;
 use crate::row::Row;
-use crate::striping::{of_items, share_of};
-use crate::users::Users;
-use ld_arrival::{Arrivals, Ticker};
+use ld_arrival::Ticker;
 use ld_base::Text;
-use ld_options::{Executor, Scenario};
+use ld_options::Scenario;
 use ld_stripe::Stripe;
 use std::alloc::Global;
 use std::marker::Model;
 
-// What an instance owns of one scenario. It is seen as its part of the machine's plan, beside the
-// scenario of the whole test.
+// What an instance owns of one scenario: what each scenario has, and the users and items that are owned of it. It is seen
+// as its part of the machine's plan, beside the scenario of the whole test.
 #[derive(Drop)]
 pub struct Part {
     name: Text,
@@ -21,13 +21,7 @@ pub struct Part {
     end: u64,
     grace: u64,
     room: u32,
-    users: u32,
-    max: u32,
-    position: usize,
-    executor: Executor,
-    arrivals: Arrivals,
-    positions: Stripe,
-    items: Stripe,
+    owned: OwnedItems,
 }
 
 impl Model for Part {
@@ -35,15 +29,13 @@ impl Model for Part {
 
     ghost Value = { PartView };
 
-    ghost use Rattle.ld_plan.specs.Part.{part_view, IsPart};
+    ghost use Rattle.ld_plan.specs.Part.{part_view};
 
     ghost view = { part_view };
-
-    ghost invariant = { IsPart };
 }
 
 impl Part {
-    ghost use Rattle.std.specs.Prelude.{◌≡◌, ◌≢◌, ◌<◌, ◌≤◌, ◌∷◌, [], ◌↔◌, ℕ, IsTrue, IfOk, IfErr, Contains, length, map, sum};
+    ghost use Rattle.std.specs.Prelude.{◌≡◌, ◌≢◌, ◌<◌, ◌≤◌, ◌↔◌, ℕ, IsTrue, IfOk, IfErr, Contains, length, map, sum};
     ghost use Rattle.ld_stripe.specs.Striping.{IsStriping};
     ghost use Rattle.ld_arrival.specs.Limits.{most_arrivals};
     ghost use Rattle.ld_arrival.specs.Timetable.{moment_of, planned_count};
@@ -53,10 +45,10 @@ impl Part {
     ghost use Rattle.ld_options.specs.Ranges.{IsScenarioInRange};
     ghost use Rattle.ld_plan.specs.Executor.{timetable_of};
     ghost use Rattle.ld_plan.specs.IsPlanOf.{IsPartOf};
+    ghost use Rattle.ld_plan.specs.OwnedPart.{executor_of};
     ghost use Rattle.ld_plan.specs.PartView.{PartView};
     ghost use Rattle.ld_plan.specs.PlanFault.{IsManyOf};
     ghost use Rattle.ld_plan.specs.PlanView.{arrival_of};
-    ghost use Rattle.ld_machine.specs.Requirement.{IsRequirement};
     ghost use Rattle.ld_plan.specs.Row.{row_of};
     ghost use Rattle.ld_plan.specs.declared.fault.PlanFault.TheVariants.{Memory};
 
@@ -67,34 +59,27 @@ impl Part {
         number: u16,
         scenario: &Scenario,
         room: u32,
-        positions: Stripe,
+        positions: &Stripe,
         position: usize,
     ) -> Result<Part, PlanFault>
         requires in_range { IsScenarioInRange scenario.now }
-        requires striping { IsStriping positions.weights positions.owners }
-        requires some { 0 < sum positions.weights }
-        requires inside { position < length positions.weights }
-        ensures part { IfOk result (IsPartOf room positions position scenario.now) }
+        requires striping { IsStriping positions.now.weights positions.now.owners }
+        requires some { 0 < sum positions.now.weights }
+        requires inside { position < length positions.now.weights }
+        ensures part { IfOk result (IsPartOf room positions.now position scenario.now) }
         ensures few { IfOk result (λ _. planned_count (timetable_of scenario.now.executor) ≤ most_arrivals) }
         ensures refused { IfErr result (λ f. f ≢ Memory → IsManyOf (timetable_of scenario.now.executor) number f) }
     {
-        let arrivals = arrivals_of(alloc, scenario.executor, number)?;
-        let numbers = numbers_of(scenario.executor);
-        let items = of_items(alloc, &positions, numbers.max)?;
+        let owned = OwnedItems::of(alloc, number, &scenario.executor, positions, position)?;
         let name = Text::of(Vec::from_slice(alloc, scenario.name.as_slice())?);
+        let length = length_of(&scenario.executor);
         Ok(Part {
             name,
             begin: scenario.begin,
-            end: scenario.begin.saturating_add(numbers.duration),
+            end: scenario.begin.saturating_add(length),
             grace: scenario.grace,
             room,
-            users: share_of(&positions, position, numbers.pre),
-            max: share_of(&positions, position, numbers.max),
-            position,
-            executor: scenario.executor,
-            arrivals,
-            positions,
-            items,
+            owned,
         })
     }
 
@@ -110,7 +95,7 @@ impl Part {
         ensures items { result ≡ self.now.part.whole_items }
         ensures few { result ≤ most_arrivals }
     {
-        self.arrivals.count()
+        self.owned.whole_items()
     }
 
     // How many items the instance owns.
@@ -118,7 +103,7 @@ impl Part {
         ensures owned { result ≡ length (owned_items self.now.part.executor) }
         ensures few { result ≤ most_arrivals }
     {
-        self.items.share(self.position, self.arrivals.count())
+        self.owned.owned()
     }
 
     // Whether the instance owns this item.
@@ -126,7 +111,7 @@ impl Part {
         requires { item < self.now.part.whole_items }
         ensures { IsTrue result ↔ Contains (owned_items self.now.part.executor) item }
     {
-        self.items.owner(item) == self.position
+        self.owned.owns(item)
     }
 
     // The moment at which an arrival is due, in nanoseconds from the run's start.
@@ -136,7 +121,7 @@ impl Part {
         ensures due { (a : Arrival) → Contains (executor_arrivals self.now.part.executor) a → a.item ≡ item →
             result ≡ due_moment self.now.part a }
     {
-        self.begin.saturating_add(self.arrivals.moment(item))
+        self.begin.saturating_add(self.owned.moment(item))
     }
 
     // How long its iterations may last behind its end.
@@ -157,24 +142,23 @@ impl Part {
     pub fn row(&self) -> Row
         ensures { result ≡ row_of self.now.part }
     {
+        let users = self.owned.users();
         Row {
             begin: self.begin,
             end: self.end,
             hard: self.end.saturating_add(self.grace),
-            users: self.users,
-            max: self.max,
+            users: users.planned,
+            max: users.limit,
             items: self.owned(),
         }
     }
 
-    // How many users the scenario needs where it is the only one.
-    pub fn requirement(&self) -> Users
-        ensures { IsRequirement (self.now.part ∷ []) result.planned result.limit }
+    // What is owned of its users and items, for who plays it.
+    pub fn owned_part(&self, alloc: Global) -> Result<OwnedPart, PlanFault>
+        ensures owned { IfOk result (λ owned. executor_of owned ≡ self.now.part.executor) }
+        ensures memory { IfErr result (λ f. f ≡ Memory) }
     {
-        Users {
-            planned: self.users,
-            limit: self.max,
-        }
+        self.owned.part(alloc)
     }
 
     // The owned arrivals, of which none was given.
@@ -182,13 +166,6 @@ impl Part {
         ensures arrivals { IfOk result (λ ticker. map arrival_of ticker ≡ executor_arrivals self.now.part.executor) }
         ensures memory { IfErr result (λ f. f ≡ Memory) }
     {
-        let Ok(arrivals) = arrivals_of(alloc, self.executor, 0) else {
-            return Err(PlanFault::Memory);
-        };
-        let items = of_items(alloc, &self.positions, numbers_of(self.executor).max)?;
-        let Ok(ticker) = Ticker::new(alloc, arrivals, items, self.position) else {
-            return Err(PlanFault::Memory);
-        };
-        Ok(ticker)
+        self.owned.ticker(alloc)
     }
 }

@@ -1,5 +1,6 @@
 use crate::fault::PlanFault;
 use crate::owned::owned_of;
+use crate::owned_part::OwnedPart;
 use crate::part::Part;
 use crate::row::Row;
 use crate::users::Users;
@@ -47,7 +48,10 @@ impl Plan {
     ghost use Rattle.ld_machine.specs.Moment.{moment_after};
     ghost use Rattle.ld_machine.specs.Plan.{Arrival, Part, due_moment, owned_items};
     ghost use Rattle.ld_machine.specs.Scenario.{executor_arrivals};
+    ghost use Rattle.ld_machine.specs.Settled.{is_distinct};
+    ghost use Rattle.ld_machine.specs.Told.{users_fit};
     ghost use Rattle.ld_machine.specs.WellTimed.{WellTimed};
+    ghost use Rattle.ld_plan.specs.OwnedPart.{executor_of};
     ghost use Rattle.ld_plan.specs.PartView.{PartView};
     ghost use Rattle.ld_plan.specs.Plan.{IsMade};
     ghost use Rattle.ld_plan.specs.PlanFault.{IsAccepted, IsRefusal};
@@ -65,7 +69,8 @@ impl Plan {
     ///
     /// Refused are, in this order: a segment that is none of the sequence; a period of the sequence of
     /// more than 100,000; the first scenario with more than 400,000 planned arrivals, over the whole
-    /// test; and `entries` below 2 for each owned item plus 1 for each scenario.
+    /// test; scenarios that may have more than 1,000 users together at one moment of the whole test; and
+    /// `entries` below 2 for each owned item plus 1 for each scenario.
     pub fn of(
         alloc: Global,
         options: Options,
@@ -155,6 +160,7 @@ impl Plan {
         requires { scenario < length self.now.plan.parts }
         ensures part { slice_get self.now.plan.parts scenario ≡ Some result.now.part }
         ensures whole { slice_get self.now.wholes scenario ≡ Some result.now.whole }
+        ensures made { IsMade self.now }
     {
         &self.parts[scenario as usize]
     }
@@ -227,6 +233,21 @@ impl Plan {
         ensures { IsSomeAnd (slice_get self.now.plan.parts scenario) (λ part. result ≡ part.sample_room) }
     {
         self.part(scenario).sample_room()
+    }
+
+    /// What the instance owns of a scenario, for who plays it: no more users at its begin than at most, and
+    /// distinct items.
+    ///
+    /// Fails where there is no memory for it.
+    pub fn owned_part(&self, alloc: Global, scenario: u16) -> Result<OwnedPart, PlanFault>
+        requires { scenario < length self.now.plan.parts }
+        ensures owned { IfOk result (λ owned. IsSomeAnd (slice_get self.now.plan.parts scenario)
+            (λ part. executor_of owned ≡ part.executor)) }
+        ensures users { IfOk result (λ owned. IsTrue (users_fit (executor_of owned))) }
+        ensures distinct { IfOk result (λ owned. IsTrue (is_distinct (owned_items (executor_of owned)))) }
+        ensures memory { IfErr result (λ f. f ≡ Memory) }
+    {
+        self.part(scenario).owned_part(alloc)
     }
 
     /// A ticker of the arrivals that the instance owns of a scenario, of which none was given.

@@ -4,7 +4,7 @@ ghost use Rattle.ld_segment.specs.Points.{IsFilled};
 ghost use Rattle.ld_segment.specs.Segments.{most_segments, segments_of};
 ghost use Rattle.ld_segment.specs.Weights.{greatest_period, HasWeights};
 ghost use Rattle.ld_stripe.specs.Striping.{IsStripingOf, share_at, shares_at};
-ghost use Rattle.ld_plan.specs.IsPlanOf.{IsSequenceStriping};
+ghost use Rattle.ld_plan.specs.IsPlanOf.{IsSequenceStriping, whole_striping};
 ghost use Rattle.ld_plan.specs.PlanFault.{HasShortPeriod, IsLongPeriod};
 ghost use Rattle.ld_plan.specs.declared.fault.PlanFault.TheVariants.{Memory};
 
@@ -40,6 +40,20 @@ pub fn of_sequence(alloc: Global, sequence: &Sequence) -> Result<Stripe, PlanFau
 {
     let weights = weights_of(alloc, sequence)?;
     match Stripe::of_weights(alloc, &weights) {
+        Ok(stripe) => Ok(stripe),
+        Err(fault) => match fault {
+            StripeFault::Memory => Err(PlanFault::Memory),
+            _ => unreachable!(),
+        },
+    }
+}
+
+// The striping of a test that isn't cut.
+pub fn of_whole(alloc: Global) -> Result<Stripe, PlanFault>
+    ensures striping { IfOk result (λ s. s ≡ whole_striping) }
+    ensures memory { IfErr result (λ f. f ≡ Memory) }
+{
+    match Stripe::of_weights(alloc, &[1]) {
         Ok(stripe) => Ok(stripe),
         Err(fault) => match fault {
             StripeFault::Memory => Err(PlanFault::Memory),

@@ -1,2 +1,4 @@
+pub mod FreeLemmas
 pub mod KeptLemmas
+pub mod UntilLemmas
 pub mod UserLemmas

@@ -1,12 +1,10 @@
 -- Users by their numbers, and how many are of a kind.
-use Rattle.std.specs.Prelude.{◌≡◌, ◌≢◌, ◌+◌, ◌-◌, ◌<◌, ℕ, zero, suc, Bool, true, cond, List, [], ◌∷◌, Option, Some, None, IsSomeAnd, IsTrue, length, count_by, nat_lt, position}
-use Rattle.std.specs.List.{position_or_len}
-use Rattle.std.proofs.Common.{arith, add-one, ap, get_or, inl, inr, refl}
-use Rattle.std.proofs.lemmas.Bool.{cases_Bool, ltb-false}
-use Rattle.std.proofs.lemmas.Option.{slice_get_within, get_or_from_slice_get, slice_get-get_or}
-use Rattle.std.proofs.lemmas.List.Sums.{fails_before_first, sum_by-set, sum_by-cons}
-use Rattle.std.proofs.lemmas.List.Quantifiers.{position-Some}
+use Rattle.std.specs.Prelude.{◌≡◌, ◌≢◌, ◌+◌, ◌-◌, ◌<◌, ◌≤◌, ℕ, zero, suc, Bool, true, cond, List, [], ◌∷◌, Option, Some, None, IsSomeAnd, IsTrue, length, count_by}
+use Rattle.std.proofs.Common.{arith, get_or, refl}
+use Rattle.std.proofs.lemmas.Option.{slice_get_within, get_or_from_slice_get}
+use Rattle.std.proofs.lemmas.List.Sums.{sum_by-set, sum_by-cons}
 use Rattle.ld_pool.specs.Users.{busy_count, free_count, idle_count, is_busy, is_free, is_idle, user_at, with_user}
+use Rattle.ld_pool.specs.declared.busy.Busy as playing
 use Rattle.ld_pool.specs.declared.user.User.{User}
 use Rattle.ld_pool.specs.declared.user.User.TheVariants.{Free, Idle, Busy}
 
@@ -32,39 +30,27 @@ some_free users number is =
     let changed = count-with_user is_free users number Free (Idle 0) is in
     omega (arith, changed)
 
+-- where a user is busy, not none are
+pub some_busy : (users : List User) (number : ℕ) (busy : playing.Busy) → user_at users number ≡ Some (Busy busy) → 0 < busy_count users
+some_busy users number busy is =
+    let changed = count-with_user is_busy users number (Busy busy) Free is in
+    omega (arith, changed)
+
 -- a user that passes the test is free
-free_is : (user : User) → is_free user ≡ true → user ≡ Free
+pub free_is : (user : User) → is_free user ≡ true → user ≡ Free
 free_is Free free = refl
 free_is (Idle _) free = absurd (cc free)
-free_is (Busy _ _ _) free = absurd (cc free)
-
--- the first user that is free is free
-pub first_is_free : (users : List User) (index : ℕ) → position is_free users ≡ Some index → user_at users (index + 1) ≡ Some Free
-first_is_free users index is =
-    let first = position-Some is_free users index Free is in
-    rw add-one (rw (slice_get-get_or users index Free first.0) (ap Some (free_is (get_or users index Free) first.1)))
-
--- where there is no first, none is free
-pub no_first : (users : List User) (number : ℕ) → position is_free users ≡ None → user_at users number ≢ Some Free
-no_first users number is free =
-    let place = user_at_place users number Free free in
-    elim (cases_Bool (nat_lt (position_or_len is_free users) (length users))) [
-      | inl some ↦ absurd (cc (rw some at is))
-      | inr none ↦
-          let past = ltb-false _ _ none in
-          let fails = fails_before_first is_free users (number - 1) Free (omega arith) in
-          absurd (cc (rw place.2 at fails))
-    ]
+free_is (Busy _) free = absurd (cc free)
 
 -- an idle user is one of a scenario
 pub idle_is : (user : Option User) → IsSomeAnd user (λ held. IsTrue (is_idle held)) → (scenario : ℕ) × (user ≡ Some (Idle scenario))
 idle_is None idle = absurd idle
 idle_is (Some Free) idle = absurd (cc idle)
 idle_is (Some (Idle scenario)) idle = (scenario, refl)
-idle_is (Some (Busy _ _ _)) idle = absurd (cc idle)
+idle_is (Some (Busy _)) idle = absurd (cc idle)
 
 -- one user more counts as what it is
-count-cons : (p : User → Bool) (user : User) (users : List User) → count_by p (user ∷ users) ≡ cond (p user) 1 0 + count_by p users
+pub count-cons : (p : User → Bool) (user : User) (users : List User) → count_by p (user ∷ users) ≡ cond (p user) 1 0 + count_by p users
 count-cons p user users = sum_by-cons (λ (u : User). cond (p u) 1 0) user users
 
 -- no user behind the first is free, where none at all is
@@ -80,9 +66,9 @@ none_counted (Free ∷ users) none = absurd (none 1 refl)
 none_counted (Idle scenario ∷ users) none =
     let rest = none_counted users (none_behind (Idle scenario) users none) in
     omega (arith, count-cons is_free (Idle scenario) users)
-none_counted (Busy scenario item until ∷ users) none =
-    let rest = none_counted users (none_behind (Busy scenario item until) users none) in
-    omega (arith, count-cons is_free (Busy scenario item until) users)
+none_counted (Busy busy ∷ users) none =
+    let rest = none_counted users (none_behind (Busy busy) users none) in
+    omega (arith, count-cons is_free (Busy busy) users)
 
 -- where none is counted as free, no user is
 pub counted_none : (users : List User) → free_count users ≡ 0 → (number : ℕ) → user_at users number ≢ Some Free
@@ -95,7 +81,7 @@ one_kind : (user : User) (free idle busy all : ℕ) → free + idle + busy ≡ a
     (cond (is_free user) 1 0 + free) + (cond (is_idle user) 1 0 + idle) + (cond (is_busy user) 1 0 + busy) ≡ suc all
 one_kind Free free idle busy all sums = omega arith
 one_kind (Idle _) free idle busy all sums = omega arith
-one_kind (Busy _ _ _) free idle busy all sums = omega arith
+one_kind (Busy _) free idle busy all sums = omega arith
 
 -- each user is free, idle or busy
 pub kinds_sum : (users : List User) → free_count users + idle_count users + busy_count users ≡ length users

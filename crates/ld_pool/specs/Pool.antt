@@ -1,8 +1,9 @@
 -- A pool of users, and what its fields keep true.
-use Rattle.std.specs.Prelude.{◌≡◌, ◌≤◌, ℕ, List, length}
+use Rattle.std.specs.Prelude.{◌≡◌, ◌+◌, ◌≤◌, ℕ, List, length}
 use Rattle.ld_base.specs.Reserved.{IsReserved}
-use Rattle.ld_pool.specs.Users.{free_count}
+use Rattle.ld_pool.specs.Users.{busy_count, free_numbers}
 use Rattle.ld_pool.specs.declared.user.User.{User}
+use Rattle.ld_set.specs.SetView.{SetView}
 
 -- a pool as contracts see it: the users that were made, in order of their numbers from 1, and how
 -- many there may be
@@ -10,8 +11,11 @@ pub record PoolView : Type 0 where
   pub users : List User
   pub limit : ℕ
 
--- the users keep to the limit, for which there is memory, and so many of them are free
-pub record IsKept (users : List User) (free limit capacity : ℕ) : Type 0 where
+-- the users keep to the limit, for which there is memory; the set holds the numbers of the free ones, and has room for
+-- each number up to the limit; and so many are busy
+pub record IsKept (users : List User) (free : SetView) (busy limit capacity : ℕ) : Type 0 where
   pub room : IsReserved (length users) limit capacity
   pub few : limit ≤ 1000
-  pub counted : free ≡ free_count users
+  pub below : free.limit ≡ limit + 1
+  pub listed : free.numbers ≡ free_numbers users
+  pub playing : busy ≡ busy_count users

@@ -1,19 +1,25 @@
-ghost use Rattle.std.specs.Prelude.{◌≡◌, ◌≢◌, ◌+◌, ◌<◌, ◌≤◌, ◌++◌, ◌∷◌, ℕ, [], false, position, IfNone, IfOk, IfSome, IsSomeAnd, IsTrue, SomeIff, length, replicate};
+ghost use Rattle.std.specs.Prelude.{◌≡◌, ◌≢◌, ◌+◌, ◌<◌, ◌≤◌, ◌++◌, ◌∷◌, ℕ, [], false, IfNone, IfOk, IfSome, IsSomeAnd, IsTrue, SomeIff, filter, length, min, nat_lt, replicate};
+ghost use Rattle.std.specs.List.{range_with_len};
 ghost use Rattle.std.specs.Option.{option_and_then, option_map_or};
 ghost use Rattle.ld_base.specs.Stint.{stint_of};
-ghost use Rattle.ld_pool.specs.Users.{busy_with, free_count, holder_of, is_busy, is_free, is_idle, user_at, with_user};
+ghost use Rattle.ld_machine.specs.Wait.{least_of};
+ghost use Rattle.ld_pool.specs.Users.{busy_count, busy_of, busy_with, free_count, holder_of, is_busy, is_idle, untils_of, user_at, with_user};
 
+use crate::busy::Busy;
 use crate::fault::PoolFault;
 use crate::user::User;
 use ld_base::Stint;
-use std::alloc::Global;
+use ld_set::NumberSet;
+use std::alloc::{AllocError, Global};
 use std::marker::Model;
 
 /// The users of an instance, numbered from 1. All of its memory is taken when it is made.
 #[derive(Drop)]
 pub struct Pool {
     users: Vec<User>,
-    free: u32,
+    // The numbers of the free users, so that one is found at one look.
+    free: NumberSet,
+    busy: u32,
     limit: u32,
 }
 
@@ -25,7 +31,7 @@ impl Model for Pool {
 
     ghost view = { λ p. record { users = p.users.items; limit = p.limit } };
 
-    ghost invariant = { λ p. IsKept p.users.items p.free p.limit (vec_capacity p.users) };
+    ghost invariant = { λ p. IsKept p.users.items p.free p.busy p.limit (vec_capacity p.users) };
 }
 
 impl Pool {
@@ -39,9 +45,11 @@ impl Pool {
     {
         let mut users = Vec::with_capacity(alloc, limit as usize)?;
         users.resize(made as usize, User::Free)?;
+        let free = first_numbers(alloc, made, limit)?;
         Ok(Pool {
             users,
-            free: made,
+            free,
+            busy: 0,
             limit,
         })
     }
@@ -57,13 +65,13 @@ impl Pool {
         ensures left { IfNone result (self.new ≡ self.old) }
     {
         let user = self.choice(prefer)?;
-        self.free -= 1;
+        self.free.remove(user);
         self.users[user as usize - 1] = User::Idle { scenario };
         Some(user)
     }
 
-    // A free user: `prefer` where that one is free, and otherwise the first, which is looked for among
-    // all users. None exactly where no user is free.
+    // A free user: `prefer` where that one is free, and otherwise the first. None exactly where no user
+    // is free.
     fn choice(&self, prefer: u32) -> Option<u32>
         ensures free { IfSome result (λ user. user_at self.now.users user ≡ Some User.Free) }
         ensures preferred { user_at self.now.users prefer ≡ Some User.Free → result ≡ Some prefer }
@@ -72,11 +80,7 @@ impl Pool {
         if self.user(prefer).is_some_and(User::is_free) {
             return Some(prefer);
         }
-        if self.free == 0 {
-            return None;
-        }
-        let index = first_free(&self.users)?;
-        Some(index as u32 + 1)
+        self.free.least()
     }
 
     /// Makes one user more, numbered after all others, which the scenario holds. None exactly where
@@ -94,28 +98,31 @@ impl Pool {
         Some(self.made())
     }
 
-    /// Starts an item on an idle user that the scenario holds. The item is to have ended at the
-    /// moment `until`, in nanoseconds from the run's start.
-    pub fn start(&mut self, scenario: u16, user: u32, item: u64, until: u64) -> Stint
+    /// Starts an item on an idle user that the scenario holds, for a thread. The item is to have ended
+    /// at the moment `until`, in nanoseconds from the run's start.
+    pub fn start(&mut self, thread: u32, scenario: u16, user: u32, item: u64, until: u64) -> Stint
         requires { user_at self.old.users user ≡ Some (User.Idle scenario) }
         ensures stint { result ≡ stint_of scenario user item until }
-        ensures busy { self.new ≡ record self.old { users = with_user self.old.users user (busy_with result) } }
+        ensures busy { self.new ≡ record self.old { users = with_user self.old.users user (busy_with thread result) } }
     {
-        let busy = User::Busy {
+        let busy = Busy {
+            thread,
             scenario,
             item,
             until,
         };
-        self.users[user as usize - 1] = busy;
+        self.busy += 1;
+        self.users[user as usize - 1] = User::Busy(busy);
         Stint::new(scenario, user, item, until)
     }
 
-    /// Takes back the stint of a busy user, which is idle then.
+    /// Takes back the stint of a busy user, which is idle then. Some thread started it.
     pub fn give_back(&mut self, stint: Stint)
-        requires { user_at self.old.users stint.user ≡ Some (busy_with stint) }
+        requires { (thread : ℕ) × (user_at self.old.users stint.user ≡ Some (busy_with thread stint)) }
         ensures { self.new ≡ record self.old { users = with_user self.old.users stint.user (User.Idle stint.scenario) } }
     {
         let scenario = stint.scenario();
+        self.busy -= 1;
         self.users[stint.user() as usize - 1] = User::Idle { scenario };
         stint.spend();
     }
@@ -125,7 +132,7 @@ impl Pool {
         requires { IsSomeAnd (user_at self.old.users user) (λ held. IsTrue (is_idle held)) }
         ensures { self.new ≡ record self.old { users = with_user self.old.users user User.Free } }
     {
-        self.free += 1;
+        self.free.insert(user);
         self.users[user as usize - 1] = User::Free;
     }
 
@@ -142,7 +149,15 @@ impl Pool {
     pub fn free_count(&self) -> u32
         ensures { result ≡ free_count self.now.users }
     {
-        self.free
+        self.free.count()
+    }
+
+    /// How many users are busy.
+    pub fn busy_count(&self) -> u32
+        ensures count { result ≡ busy_count self.now.users }
+        ensures few { result ≤ 1000 }
+    {
+        self.busy
     }
 
     /// The scenario that holds a user, or None exactly where none does, as where no user of this
@@ -160,6 +175,30 @@ impl Pool {
         self.user(user).is_some_and(User::is_busy)
     }
 
+    /// What a user plays, or None exactly where it plays nothing, as where no user of this number was
+    /// made.
+    pub fn busy(&self, user: u32) -> Option<Busy>
+        ensures { result ≡ option_and_then busy_of (user_at self.now.users user) }
+    {
+        self.user(user)?.busy()
+    }
+
+    /// The least moment above the reading until which a busy user's iteration may last, if there is
+    /// one. It is looked for among all users.
+    pub fn next_until(&self, reading: u64) -> Option<u64>
+        ensures { result ≡ least_of (filter (nat_lt reading) (untils_of self.now.users)) }
+    {
+        let mut least = None;
+        for user in &self.users {
+            if let User::Busy(busy) = user {
+                if busy.until > reading {
+                    least = Some(lesser(least, busy.until));
+                }
+            }
+        }
+        least
+    }
+
     // The user of a number, or None where none of this number was made.
     fn user(&self, user: u32) -> Option<User>
         ensures { result ≡ user_at self.now.users user }
@@ -169,9 +208,25 @@ impl Pool {
     }
 }
 
-// The index of the first user that is free, or None where none is.
-fn first_free(users: &[User]) -> Option<usize>
-    ensures { result ≡ position is_free users.now }
+// The numbers from 1 to `made`, as a set that may hold those up to `limit`.
+fn first_numbers(alloc: Global, made: u32, limit: u32) -> Result<NumberSet, AllocError>
+    requires within { made ≤ limit }
+    requires few { limit ≤ 1000 }
+    ensures { IfOk result (λ set. set ≡ record { numbers = range_with_len 1 made; limit = limit + 1 }) }
 {
-    users.iter().position(|user| user.is_free())
+    let mut numbers = NumberSet::new(alloc, limit + 1)?;
+    for before in 0..made {
+        numbers.insert(before + 1);
+    }
+    Ok(numbers)
+}
+
+// The lesser of a moment, if there is one, and another.
+fn lesser(moment: Option<u64>, other: u64) -> u64
+    ensures { result ≡ option_map_or (min other) moment other }
+{
+    match moment {
+        Some(moment) => moment.min(other),
+        None => other,
+    }
 }

@@ -1,5 +1,7 @@
 ghost use Rattle.std.specs.Prelude.{◌≡◌};
-ghost use Rattle.ld_pool.specs.Users.{holder_of, is_busy, is_free};
+ghost use Rattle.ld_pool.specs.Users.{busy_of, holder_of, is_busy, is_free};
+
+use crate::busy::Busy;
 
 /// What a pool knows of one user.
 ///
@@ -9,16 +11,9 @@ pub enum User {
     /// No scenario holds the user.
     Free,
     /// A scenario holds the user, which plays nothing.
-    Idle {
-        scenario: u16,
-    },
-    /// A scenario holds the user, which plays an item that is to have ended at the moment `until`,
-    /// in nanoseconds from the run's start.
-    Busy {
-        scenario: u16,
-        item: u64,
-        until: u64,
-    },
+    Idle { scenario: u16 },
+    /// A scenario holds the user, which plays this.
+    Busy(Busy),
 }
 
 impl User {
@@ -33,7 +28,7 @@ impl User {
     pub(crate) fn is_busy(self) -> bool
         ensures { result ≡ is_busy self }
     {
-        matches!(self, User::Busy { .. })
+        matches!(self, User::Busy(_))
     }
 
     // The scenario that holds the user, or None exactly where it is free.
@@ -43,11 +38,17 @@ impl User {
         match self {
             User::Free => None,
             User::Idle { scenario } => Some(scenario),
-            User::Busy {
-                scenario,
-                item: _,
-                until: _,
-            } => Some(scenario),
+            User::Busy(busy) => Some(busy.scenario),
+        }
+    }
+
+    // What the user plays, or None exactly where it plays nothing.
+    pub(crate) fn busy(self) -> Option<Busy>
+        ensures { result ≡ busy_of self }
+    {
+        match self {
+            User::Busy(busy) => Some(busy),
+            _ => None,
         }
     }
 }

@@ -16,7 +16,7 @@ use Rattle.ld_machine.proofs.OrderLemmas.{before_itself}
 use Rattle.ld_machine.proofs.WaitLemmas.{In-left, In-right, flat_map-In}
 use Rattle.ld_machine.proofs.SourceLemmas.{Source, by_stop, by_release, by_take, by_arrival, by_start, by_drop, by_close}
 use Rattle.ld_machine.proofs.LaterLemmas.{is_stop, later_source}
-use Rattle.ld_rates.specs.HeldUsers.{chosen_of}
+use Rattle.ld_rates.specs.Answer.{chosen_of}
 
 -- ---- lists
 

@@ -1,19 +1,21 @@
 -- What is kept of a scenario with arrivals, and what the machine says of it.
-use Rattle.std.proofs.Common.{◌≡◌, ℕ, Bool, true, false, cond, nat_lt, nat_le, List, [], ◌∷◌, ◌++◌, Option, None, Some, map, filter, find, slice_get, IsTrue, length, append-nil, refl, sym, ap, ap₂, ◌∙◌, subst, rules, min}
+use Rattle.std.proofs.Common.{◌≡◌, ◌≤◌, ℕ, Bool, true, false, cond, nat_lt, nat_le, List, [], ◌∷◌, ◌++◌, Option, None, Some, map, filter, find, slice_get, IsTrue, append-nil, refl, sym, ap, ap₂, ◌∙◌, subst, arith, rules, min}
 use Rattle.std.specs.Prelude.{option_map, is_some, option_to_list}
 use Rattle.std.specs.Option.{option_map_or}
-use Rattle.std.proofs.lemmas.List.{length-map}
+use Rattle.std.proofs.lemmas.Bool.{le-leb}
 use Rattle.std.proofs.lemmas.List.Elements.{filter-append}
 use Rattle.ld_machine.specs.Moment.{moment_after}
 use Rattle.ld_machine.specs.Plan.{Arrival, Executor, SharedIterations, PerVuIterations, ConstantVus, RampingVus, ArrivalRate, ExternallyControlled, Part, owned_items, due_moment}
 use Rattle.ld_machine.specs.State as machine
 use Rattle.ld_machine.specs.Scenario.{Scenario, first_of, is_open_item, least_open_item, has_open_item, executor_arrivals, executor_max_vus, least_open_arrival, runs, where_holds, is_due, due_arrival}
 use Rattle.ld_machine.specs.Settled.{is_distinct}
+use Rattle.ld_machine.specs.Together.{holds}
+use Rattle.ld_machine.specs.Told.{IsHeldInOrder}
 use Rattle.ld_machine.specs.Wait.{least_of, ramping_moments, scenario_moments}
 use Rattle.ld_machine.specs.Wishes.{has_arrivals}
 use Rattle.ld_rates.specs.declared.level.Level.TheVariants.{Runs}
 use Rattle.ld_rates.specs.RatesView.{RatesView}
-use Rattle.ld_rates.specs.Shows.{Shows, kept_level, kept_user, kept_pair, kept_of, open_arrivals, pre_allocated_of, arrival_of}
+use Rattle.ld_rates.specs.Shows.{Shows, kept_level, kept_pair, kept_of, open_arrivals, pre_allocated_of, arrival_of}
 
 -- an executor with arrivals, by its numbers
 pub rates_executor : (e : Executor) → IsTrue (has_arrivals e) → e ≡ ArrivalRate (pre_allocated_of e) (executor_max_vus e) (executor_arrivals e)
@@ -159,9 +161,8 @@ least_joined [] ys = least_again (least_of ys)
 least_joined (x ∷ xs) ys = ap (λ (o : Option ℕ). Some (option_map_or (min x) o x)) (least_joined xs ys)
 
 -- how many users are held
-pub count_shown : (v : RatesView) (s : Scenario) → Shows v s → machine.held_count s.share ≡ length v.held
-count_shown v s shows =
-    sym (length-map s.share.held kept_user) ∙ ap (λ (w : RatesView). length w.held) (sym shows.kept)
+pub count_shown : (v : RatesView) (s : Scenario) → Shows v s → machine.held_count s.share ≡ v.held
+count_shown v s shows = ap (λ (w : RatesView). w.held) (sym shows.kept)
 
 -- a state that keeps level `Runs` shows a scenario at that level
 runs_level : (level : machine.Level) → kept_level level ≡ Runs → level ≡ machine.Runs
@@ -224,15 +225,26 @@ opening_kept begin end grace pre most pairs =
       waiting = pairs;
       level = Runs;
       closed = false;
-      held = [];
+      idle = [];
+      held = 0;
     }
 
-pub opening_shown : (begin end grace pre most : ℕ) (pairs : List (ℕ × ℕ)) (s : Scenario) → s.share ≡ machine.opening_share →
+-- at the opening nobody is held
+opening_few : (s : Scenario) → s.share ≡ machine.opening_share → (user : ℕ) → holds user s.share ≡ true → user ≤ 1000
+opening_few s share user held = absurd (let none : holds user s.share ≡ false = ap (holds user) share in cc)
+
+opening_order : (s : Scenario) → s.share ≡ machine.opening_share → IsHeldInOrder s
+opening_order s share = rw share (λ k below. absurd (omega arith))
+
+pub opening_shown : (begin end grace pre most : ℕ) (pairs : List (ℕ × ℕ)) (s : Scenario) → pre ≤ most → s.share ≡ machine.opening_share →
     s.part.begin ≡ begin → s.part.end ≡ end → s.part.grace ≡ grace → s.part.executor ≡ ArrivalRate pre most (map arrival_of pairs) →
     IsTrue (is_distinct (owned_items s.part.executor)) → Shows (opening_kept begin end grace pre most pairs) s
-opening_shown begin end grace pre most pairs s share b e g how distinct =
+opening_shown begin end grace pre most pairs s within share b e g how distinct =
     record {
       kept = rw (share, b, e, g, how) (ap (opening_kept begin end grace pre most) (sym (all_open pairs)));
       rates = rw how (search rules);
       distinct = distinct;
+      fits = rw how (le-leb pre most within);
+      order = opening_order s share;
+      few = opening_few s share;
     }

@@ -1,7 +1,7 @@
 pub mod KeptLemmas
-pub mod HeldLemmas
 pub mod FirstLemmas
 pub mod ShownLemmas
+pub mod IdleLemmas
 pub mod ApplyLemmas
 pub mod DistinctLemmas
-pub mod EnabledLemmas
+pub mod TellLemmas

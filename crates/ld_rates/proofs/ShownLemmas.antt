@@ -1,7 +1,6 @@
 -- What a state wishes is what comes first of the scenario that it shows.
-use Rattle.std.proofs.Common.{◌≡◌, ℕ, Bool, true, false, cond, List, [], ◌∷◌, Option, None, Some, map, filter, flat_map, IsTrue, IfNone, length, refl, sym, ap, ◌∙◌, subst, rules}
+use Rattle.std.proofs.Common.{◌≡◌, ℕ, Bool, true, false, cond, List, [], ◌∷◌, Option, None, Some, map, filter, flat_map, IsTrue, IfNone, refl, sym, ap, ◌∙◌, subst, rules}
 use Rattle.std.specs.Prelude.{option_map, is_some}
-use Rattle.std.proofs.lemmas.List.{length-map}
 use Rattle.ld_base.specs.declared.wish.Wish.{Wish}
 use Rattle.ld_base.specs.declared.wish.Wish.TheVariants.{Nothing, Release, Take, More, Drop, Late, Close}
 use Rattle.ld_machine.specs.Plan.{Arrival, Executor, Part, due_moment, hard_moment}
@@ -9,10 +8,9 @@ use Rattle.ld_machine.specs.State as machine
 use Rattle.ld_machine.specs.Scenario.{Scenario, first_of, has_ended, may_hold_more, may_release, slots_to_take, may_take, due_arrival, may_close, executor_arrivals, executor_max_vus}
 use Rattle.ld_machine.specs.Moves.{ReleaseUser, TakeUser, Users, releases, takes}
 use Rattle.ld_machine.specs.Wishes.{has_arrivals, TellsFirst}
-use Rattle.ld_rates.specs.HeldUsers.{idle_numbers, chosen_of, chosen_idle}
 use Rattle.ld_rates.specs.RatesView.{RatesView}
-use Rattle.ld_rates.specs.Shows.{Shows, kept_user, kept_pair, kept_of, pre_allocated_of}
-use Rattle.ld_rates.specs.Answer.{answer_before_end, answer_of}
+use Rattle.ld_rates.specs.Shows.{Shows, kept_pair, kept_of, pre_allocated_of}
+use Rattle.ld_rates.specs.Answer.{chosen_of, answer_before_end, answer_of}
 use Rattle.ld_rates.proofs.KeptLemmas.{rates_executor, count_shown}
 use Rattle.ld_rates.proofs.FirstLemmas.{idle_of, at_rate, chosen_none, release_told, take_told, close_told, nothing_told, late_told, start_told, more_told, drop_told}
 
@@ -59,30 +57,19 @@ nobody_free n s users t none =
 
 -- ---- the idle users
 
-idle_kept : (held : List machine.HeldUser) → idle_numbers (map kept_user held) ≡ map (λ (h : machine.HeldUser). h.user) (filter machine.is_idle held)
-idle_kept [] = refl
-idle_kept (h ∷ rest) =
-    let P : machine.Condition → Type 0 = λ condition.
-    idle_numbers (kept_user (record h { condition = condition }) ∷ map kept_user rest)
-    ≡ map (λ (x : machine.HeldUser). x.user) (filter machine.is_idle (record h { condition = condition } ∷ rest)) in
-    elim h.condition as P [
-      | machine.Idle ↦ ap (λ (more : List ℕ). h.user ∷ more) (idle_kept rest)
-      | machine.Busy thread item until ↦ idle_kept rest
-    ]
-
 -- the idle users that are kept are those of the scenario
-pub idle_shown : (v : RatesView) (s : Scenario) → Shows v s → idle_numbers v.held ≡ idle_of s.share
-idle_shown v s shows = ap (λ (w : RatesView). idle_numbers w.held) shows.kept ∙ idle_kept s.share.held
+pub idle_shown : (v : RatesView) (s : Scenario) → Shows v s → v.idle ≡ idle_of s.share
+idle_shown v s shows = ap (λ (w : RatesView). w.idle) shows.kept
 
-pub chosen_shown : (v : RatesView) (s : Scenario) (prefer : ℕ) → Shows v s → chosen_idle prefer v.held ≡ chosen_of prefer (idle_of s.share)
+pub chosen_shown : (v : RatesView) (s : Scenario) (prefer : ℕ) → Shows v s → chosen_of prefer v.idle ≡ chosen_of prefer (idle_of s.share)
 chosen_shown v s prefer shows = ap (chosen_of prefer) (idle_shown v s shows)
 
 -- where none is chosen nobody is released
-pub none_chosen : (v : RatesView) (s : Scenario) (prefer n t : ℕ) → Shows v s → chosen_idle prefer v.held ≡ None → releases n s t ≡ []
+pub none_chosen : (v : RatesView) (s : Scenario) (prefer n t : ℕ) → Shows v s → chosen_of prefer v.idle ≡ None → releases n s t ≡ []
 none_chosen v s prefer n t shows none =
     nobody_idle n s t (chosen_none prefer (idle_of s.share) (sym (chosen_shown v s prefer shows) ∙ none))
 
-pub none_goes : (v : RatesView) (prefer t : ℕ) (idle : Option ℕ) → idle ≡ chosen_idle prefer v.held →
+pub none_goes : (v : RatesView) (prefer t : ℕ) (idle : Option ℕ) → idle ≡ chosen_of prefer v.idle →
     IfNone idle ((s : Scenario) (n : ℕ) → Shows v s → releases n s t ≡ [])
 none_goes v prefer t None e = λ s n shows. none_chosen v s prefer n t shows (sym e)
 none_goes v prefer t (Some user) e = search rules
@@ -108,7 +95,7 @@ answer_told part pre most planned share controls n users t prefer none no_take a
       | false ↦ λ not_ended idle holds. drop_told part pre most planned share controls n users t prefer none no_take a due not_ended idle holds
     ] in
     let before : Q (chosen_of prefer (idle_of share)) = elim (chosen_of prefer (idle_of share)) as Q [
-      | None ↦ λ not_ended chosen. rw (length-map share.held kept_user) (more not_ended (chosen_none prefer (idle_of share) chosen) refl)
+      | None ↦ λ not_ended chosen. more not_ended (chosen_none prefer (idle_of share) chosen) refl
       | Some user ↦ λ not_ended chosen. start_told part pre most planned share controls n users t prefer none no_take a user due not_ended chosen
     ] in
     let all : P (has_ended s t) = elim (has_ended s t) as P [
@@ -128,13 +115,13 @@ mapped_none f (Some x) e = absurd (cc)
 -- ---- rank by rank
 
 module _ (v : RatesView) (s : Scenario) (shows : Shows v s) (n : ℕ) (users : Users) (t prefer : ℕ) where
-  pub release_shown : (user : ℕ) → chosen_idle prefer v.held ≡ Some user → ((slot : ℕ) → may_release s slot t ≡ true) → TellsFirst n users s t prefer (Release user)
+  pub release_shown : (user : ℕ) → chosen_of prefer v.idle ≡ Some user → ((slot : ℕ) → may_release s slot t ≡ true) → TellsFirst n users s t prefer (Release user)
   release_shown user chosen may =
       let P : Scenario → Type 0 = λ s. chosen_of prefer (idle_of s.share) ≡ Some user → ((slot : ℕ) → may_release s slot t ≡ true) → TellsFirst n users s t prefer (Release user) in
       of_rates P s shows.rates (λ part pre most planned share controls. release_told part pre most planned share controls n users t prefer user)
       (sym (chosen_shown v s prefer shows) ∙ chosen) may
 
-  pub take_shown : (slot : ℕ) → slot ≡ length v.held → releases n s t ≡ [] → may_take s slot t ≡ true → is_some (first_of users.free) ≡ true →
+  pub take_shown : (slot : ℕ) → slot ≡ v.held → releases n s t ≡ [] → may_take s slot t ≡ true → is_some (first_of users.free) ≡ true →
       TellsFirst n users s t prefer (Take slot)
   take_shown slot is none may free =
       let count : machine.held_count s.share ≡ slot = count_shown v s shows ∙ sym is in
@@ -144,7 +131,7 @@ module _ (v : RatesView) (s : Scenario) (shows : Shows v s) (n : ℕ) (users : U
       subst (λ (k : ℕ). TellsFirst n users s t prefer (Take k)) count told
 
   pub answer_shown : (pair : ℕ × ℕ) (idle : Option ℕ) (wish : Wish) → releases n s t ≡ [] → takes n s users t ≡ [] →
-      Some pair ≡ option_map kept_pair (due_arrival s t) → idle ≡ chosen_idle prefer v.held → wish ≡ answer_of v pair idle t → TellsFirst n users s t prefer wish
+      Some pair ≡ option_map kept_pair (due_arrival s t) → idle ≡ chosen_of prefer v.idle → wish ≡ answer_of v pair idle t → TellsFirst n users s t prefer wish
   answer_shown pair idle wish none no_take due is wished =
       let P : Scenario → Type 0 = λ s. releases n s t ≡ [] → takes n s users t ≡ [] → (a : Arrival) → due_arrival s t ≡ Some a →
       TellsFirst n users s t prefer (answer_of (kept_of s) (kept_pair a) (chosen_of prefer (idle_of s.share)) t) in

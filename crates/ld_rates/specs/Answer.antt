@@ -1,9 +1,14 @@
--- How a due arrival is answered.
-use Rattle.std.specs.Prelude.{ℕ, nat_le, nat_lt, Option, None, Some, length, if◌then◌else◌}
+-- Which idle user is chosen, and how a due arrival is answered.
+use Rattle.std.specs.Prelude.{ℕ, nat_le, nat_lt, List, Option, None, Some, slice_get, if◌then◌else◌}
 use Rattle.ld_base.specs.declared.wish.Wish.{Wish}
 use Rattle.ld_base.specs.declared.wish.Wish.TheVariants.{Start, More, Drop, Late}
 use Rattle.ld_machine.specs.Moment.{moment_after}
+use Rattle.ld_set.specs.SetView.{is_among}
 use Rattle.ld_rates.specs.RatesView.{RatesView}
+
+-- of these users the preferred one, if it is among them, else the first one
+abbrev pub chosen_of : ℕ → List ℕ → Option ℕ
+chosen_of prefer numbers = if is_among numbers prefer then Some prefer else slice_get numbers 0
 
 -- the moment at which an arrival is due, from the run's start
 abbrev pub due_of : RatesView → ℕ × ℕ → ℕ
@@ -18,8 +23,8 @@ until_moment state = moment_after state.end state.grace
 abbrev pub answer_before_end : RatesView → ℕ × ℕ → Option ℕ → Wish
 answer_before_end state pair (Some user) = Start user pair.0 (until_moment state) (due_of state pair)
 answer_before_end state pair None =
-    if nat_lt (length state.held) state.max
-    then More pair.0 (until_moment state) (due_of state pair) (length state.held)
+    if nat_lt state.held state.max
+    then More pair.0 (until_moment state) (due_of state pair) state.held
     else Drop pair.0 (due_of state pair)
 
 -- at the end, or behind it, the arrival is late

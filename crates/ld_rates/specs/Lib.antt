@@ -1,4 +1,3 @@
-pub mod HeldUsers
 pub mod RatesView
 pub mod Shows
 pub mod Applies

@@ -1,33 +1,26 @@
 -- Which scenario of the machine a state shows: what the state keeps is what it keeps of that scenario.
-use Rattle.std.specs.Prelude.{◌≡◌, ℕ, List, Option, None, Some, IsTrue, map, filter}
+use Rattle.std.specs.Prelude.{◌≡◌, ◌≤◌, ℕ, true, List, IsTrue, map, filter}
 use Rattle.ld_base.specs.declared.act.Act.{Act}
 use Rattle.ld_machine.specs.Plan.{Arrival, Executor, ArrivalRate, Part, owned_items}
 use Rattle.ld_machine.specs.State as machine
 use Rattle.ld_machine.specs.Scenario.{Scenario, is_open_item, executor_arrivals, executor_max_vus}
 use Rattle.ld_machine.specs.Settled.{is_distinct}
 use Rattle.ld_machine.specs.ShareEffect.{share_after}
+use Rattle.ld_machine.specs.Together.{holds}
+use Rattle.ld_machine.specs.Told.{IsHeldInOrder, MayBeTold, users_fit}
 use Rattle.ld_machine.specs.Wishes.{has_arrivals}
-use Rattle.ld_rates.specs.declared.held_user.HeldUser.{HeldUser}
-use Rattle.ld_rates.specs.declared.held_user.Play.{Play}
 use Rattle.ld_rates.specs.declared.level.Level.{Level}
 use Rattle.ld_rates.specs.declared.level.Level.TheVariants.{Runs, StartsNothing, Halted}
 use Rattle.ld_rates.specs.declared.rates_part.RatesPart.{RatesPart}
 use Rattle.ld_rates.specs.RatesView.{RatesView}
 
--- ---- what is kept of a scenario: all but the threads, the items that ended, and what concerns other
--- executors
+-- ---- what is kept of a scenario: of its users only which are idle and how many there are; nothing of the
+-- items that ended, and of what concerns other executors
 
 abbrev pub kept_level : machine.Level → Level
 kept_level machine.Runs = Runs
 kept_level (machine.StartsNothing commanded) = StartsNothing commanded
 kept_level machine.Halted = Halted
-
-abbrev pub kept_play : machine.Condition → Option Play
-kept_play machine.Idle = None
-kept_play (machine.Busy thread item until) = Some (record { item = item; until = until })
-
-abbrev pub kept_user : machine.HeldUser → HeldUser
-kept_user h = record { user = h.user; slot = h.slot; play = kept_play h.condition }
 
 -- an arrival's item, and its moment
 abbrev pub kept_pair : Arrival → ℕ × ℕ
@@ -53,17 +46,22 @@ kept_of s =
       waiting = map kept_pair (open_arrivals s);
       level = kept_level s.share.level;
       closed = s.share.closed;
-      held = map kept_user s.share.held;
+      idle = map (λ (h : machine.HeldUser). h.user) (machine.idle_users s.share);
+      held = machine.held_count s.share;
     }
 
 -- ---- which scenario a state shows
 
--- the state shows the scenario: it is what is kept of it; and the scenario has arrivals, whose items
--- are distinct
+-- the state shows the scenario: it is what is kept of it; the scenario has arrivals, whose items are
+-- distinct, and takes no more users at its begin than it may hold; and the users that it holds stand in
+-- order of their numbers, each once, which are at most 1,000
 pub record Shows (state : RatesView) (s : Scenario) : Type 0 where
   pub kept : state ≡ kept_of s
   pub rates : IsTrue (has_arrivals s.part.executor)
   pub distinct : IsTrue (is_distinct (owned_items s.part.executor))
+  pub fits : IsTrue (users_fit s.part.executor)
+  pub order : IsHeldInOrder s
+  pub few : (user : ℕ) → holds user s.share ≡ true → user ≤ 1000
 
 -- an arrival of a ticker
 abbrev pub arrival_of : ℕ × ℕ → Arrival
@@ -81,7 +79,8 @@ abbrev pub ShowsOpening : RatesPart → RatesView → Type 0
 ShowsOpening part state =
     (s : Scenario) → s.share ≡ machine.opening_share → IsPart part s.part → IsTrue (is_distinct (owned_items s.part.executor)) → Shows state s
 
--- whichever scenario the old state shows, the new one shows what the act, by any thread, makes of it
+-- whichever scenario the old state shows: where that may be told of the act, the new state shows what the
+-- act, by any thread, makes of it
 abbrev pub Follows : RatesView → RatesView → Act → ℕ → Type 0
 Follows old new act reading =
-    (s : Scenario) (thread : ℕ) → Shows old s → Shows new (record s { share = share_after s.part thread reading act s.share })
+    (s : Scenario) (thread : ℕ) → Shows old s → MayBeTold s act → Shows new (record s { share = share_after s.part thread reading act s.share })

@@ -3,8 +3,6 @@
 #![tactic(auto)]
 
 mod fault;
-mod held_user;
-mod held_users;
 mod laws;
 mod level;
 mod open_arrivals;
@@ -12,8 +10,7 @@ mod rates_part;
 mod rates_state;
 
 pub use fault::ExecFault;
-pub use held_user::{HeldUser, Play};
-pub use laws::{distinct_items, enabled_acts, shown_numbers};
+pub use laws::{distinct_items, may_be_told, shown, shown_numbers};
 pub use level::Level;
 pub use rates_part::RatesPart;
 pub use rates_state::RatesState;

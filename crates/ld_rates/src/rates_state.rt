@@ -1,49 +1,55 @@
-ghost use Rattle.std.specs.Prelude.{◌≡◌, ◌<◌, ◌≤◌, ℕ, IfOk, IfErr, IfSome, IfNone, IsTrue, Some, is_some, true, false, [], ◌∷◌, ◌++◌, option_to_list, filter, nat_lt, option_map, length};
+ghost use Rattle.std.specs.Prelude.{◌≡◌, ◌+◌, ◌<◌, ◌≤◌, ℕ, IfOk, IfErr, IfSome, IfNone, IsTrue, Some, is_some, true, [], ◌∷◌, ◌++◌, option_to_list, filter, nat_lt, option_map};
 ghost use Rattle.ld_base.specs.declared.act.Act.TheVariants as acts;
 ghost use Rattle.ld_machine.specs.Scenario.{Scenario, first_of, runs, may_take, may_release, may_close, may_stop, due_arrival, least_open_arrival, least_open_item};
 ghost use Rattle.ld_machine.specs.Moves.{Users, releases, takes};
 ghost use Rattle.ld_machine.specs.Plan.{due_moment};
+ghost use Rattle.ld_machine.specs.Together.{least_above};
+ghost use Rattle.ld_machine.specs.Told.{level_number};
 ghost use Rattle.ld_machine.specs.Wait.{least_of, scenario_moments};
 ghost use Rattle.ld_machine.specs.Wishes.{WishesFirst};
-ghost use Rattle.ld_rates.specs.HeldUsers.{chosen_idle};
-ghost use Rattle.ld_rates.specs.RatesView.{number_of};
+ghost use Rattle.ld_set.specs.SetView.{with_number};
 ghost use Rattle.ld_rates.specs.Shows.{Shows, ShowsOpening, Follows, kept_pair};
-ghost use Rattle.ld_rates.specs.Answer.{answer_of};
-ghost use Rattle.ld_rates.specs.Applies.{MayApply, MayApplyWished, ends_item, next_item};
+ghost use Rattle.ld_rates.specs.Answer.{answer_of, chosen_of};
+ghost use Rattle.ld_rates.specs.Applies.{MayApply, MayApplyWished, next_item};
 
 use crate::fault::ExecFault;
-use crate::held_user::Play;
-use crate::held_users::HeldUsers;
 use crate::level::Level;
 use crate::open_arrivals::OpenArrivals;
 use crate::rates_part::RatesPart;
 use ld_base::{Act, Command, Wish};
+use ld_set::NumberSet;
 use std::alloc::Global;
 use std::marker::Model;
 
-/// One scenario at an arrival rate, as it stands: its part, its level, the users that it holds and the
-/// arrivals that are still open. Readings and moments are in nanoseconds from the run's start.
+// Users are numbered from 1 to 1,000.
+const NUMBERS: u32 = 1001;
+
+/// One scenario at an arrival rate, as it stands: its part, its level, which users it holds idle, how many it holds, and
+/// the arrivals that are still open. Readings and moments are in nanoseconds from the run's start.
 #[derive(Drop)]
 pub struct RatesState {
     begin: u64,
     end: u64,
     grace: u64,
     pre: u32,
+    max: u32,
     waiting: OpenArrivals,
     level: Level,
     closed: bool,
-    held: HeldUsers,
+    // The numbers of the idle users.
+    idle: NumberSet,
+    held: u32,
 }
 
 impl Model for RatesState {
-    ghost use Rattle.std.specs.Prelude.{◌≤◌};
+    ghost use Rattle.std.specs.Prelude.{◌≡◌, ◌≤◌};
     ghost use Rattle.ld_rates.specs.RatesView.{RatesView};
 
     ghost Value = { RatesView };
 
-    ghost view = { λ s. record { begin = s.begin; end = s.end; grace = s.grace; pre = s.pre; max = s.held.room; waiting = s.waiting; level = s.level; closed = s.closed; held = s.held.users } };
+    ghost view = { λ s. record { begin = s.begin; end = s.end; grace = s.grace; pre = s.pre; max = s.max; waiting = s.waiting; level = s.level; closed = s.closed; idle = s.idle.numbers; held = s.held } };
 
-    ghost invariant = { λ s. s.pre ≤ s.held.room };
+    ghost invariant = { λ s. (s.pre ≤ s.max) × (s.idle.limit ≡ 1001) };
 }
 
 impl RatesState {
@@ -64,16 +70,18 @@ impl RatesState {
             max,
             ticker,
         } = part;
-        let held = HeldUsers::new(alloc, max)?;
+        let idle = NumberSet::new(alloc, NUMBERS)?;
         Ok(RatesState {
             begin,
             end,
             grace,
             pre,
+            max,
             waiting: OpenArrivals::new(ticker),
             level: Level::Runs,
             closed: false,
-            held,
+            idle,
+            held: 0,
         })
     }
 
@@ -92,7 +100,7 @@ impl RatesState {
             return Wish::Take { slot };
         }
         if let Some((item, moment)) = self.due_arrival(reading) {
-            return self.answer(item, moment, self.held.idle(prefer), reading);
+            return self.answer(item, moment, self.idle_user(prefer), reading);
         }
         if self.may_close(reading) {
             Wish::Close
@@ -114,28 +122,21 @@ impl RatesState {
     pub fn apply(&mut self, act: &Act, reading: u64)
         requires { MayApply self.old act.now }
         ensures follows { Follows self.old self.new act.now reading }
-        ensures others { ends_item act.now ≡ false → self.new.waiting ≡ self.old.waiting }
     {
         match act {
-            Act::Take { user, slot, .. } => self.held.hold(*user, *slot),
-            Act::Grow { user, slot, .. } => self.held.hold(*user, *slot),
-            Act::Start {
-                user,
-                item,
-                until,
-                ..
-            } => {
-                let play = Play {
-                    item: *item,
-                    until: *until,
-                };
-                self.held.set_play(*user, Some(play));
+            Act::Take { user, .. } => self.hold(*user),
+            Act::Grow { user, .. } => self.hold(*user),
+            Act::Start { user, .. } => {
+                self.idle.remove(*user);
                 self.waiting.pass();
             }
             Act::Drop { .. } => self.waiting.pass(),
             Act::Late { .. } => self.waiting.pass(),
-            Act::Return { user, .. } => self.held.set_play(*user, None),
-            Act::Release { user, .. } => self.held.let_go(*user),
+            Act::Return { user, .. } => self.idle.insert(*user),
+            Act::Release { user, .. } => {
+                self.idle.remove(*user);
+                self.held = self.held.saturating_sub(1);
+            }
             Act::Stop { .. } => self.level = Level::Halted,
             Act::Close { .. } => self.closed = true,
             Act::Control { command } => self.obey(command, reading),
@@ -145,7 +146,7 @@ impl RatesState {
     /// The least moment above the reading at which the clock may change what the scenario does; the
     /// `until`s of busy users aside. None exactly where there is none.
     pub fn candidate(&self, reading: u64) -> Option<u64>
-        ensures { (s : Scenario) → Shows self.now s → result ≡ least_of (filter (nat_lt reading) (scenario_moments s)) }
+        ensures { (s : Scenario) → Shows self.now s → result ≡ least_above reading (scenario_moments s) }
     {
         if self.closed {
             return None;
@@ -165,7 +166,7 @@ impl RatesState {
 
     /// The scenario's level: 0 where it runs, 1 where it starts nothing more, 2 where it was halted.
     pub fn level(&self) -> u8
-        ensures { result ≡ number_of self.now.level }
+        ensures { (s : Scenario) → Shows self.now s → result ≡ level_number s.share.level }
     {
         match self.level {
             Level::Runs => 0,
@@ -176,7 +177,7 @@ impl RatesState {
 
     /// Whether the scenario was closed.
     pub fn is_closed(&self) -> bool
-        ensures { result ≡ self.now.closed }
+        ensures { (s : Scenario) → Shows self.now s → result ≡ s.share.closed }
     {
         self.closed
     }
@@ -211,11 +212,31 @@ impl RatesState {
 
     // A command reaches an open scenario only where it is a stop.
     fn obey(&mut self, command: &Command, reading: u64)
-        ensures follows { Follows self.old self.new (acts.Control command.now) reading }
-        ensures others { self.new.waiting ≡ self.old.waiting }
+        ensures { Follows self.old self.new (acts.Control command.now) reading }
     {
         if *command == Command::Stop && !self.closed {
             self.level = Level::StartsNothing { commanded: reading };
+        }
+    }
+
+    // Holds one user more, which is idle.
+    fn hold(&mut self, user: u32)
+        requires few { user ≤ 1000 }
+        requires room { self.old.held < self.old.max }
+        ensures { self.new ≡ record self.old { idle = with_number user self.old.idle; held = self.old.held + 1 } }
+    {
+        self.idle.insert(user);
+        self.held += 1;
+    }
+
+    // An idle user: the preferred one, where it is idle, else the least one.
+    fn idle_user(&self, prefer: u32) -> Option<u32>
+        ensures { result ≡ chosen_of prefer self.now.idle }
+    {
+        if self.idle.contains(prefer) {
+            Some(prefer)
+        } else {
+            self.idle.least()
         }
     }
 
@@ -228,12 +249,12 @@ impl RatesState {
 
     // The idle user that is to be released, if there is one.
     fn to_release(&self, prefer: u32, reading: u64) -> Option<u32>
-        ensures some { IfSome result (λ user. chosen_idle prefer self.now.held ≡ Some user) }
+        ensures some { IfSome result (λ user. chosen_of prefer self.now.idle ≡ Some user) }
         ensures may { IfSome result (λ user. (s : Scenario) (slot : ℕ) → Shows self.now s → may_release s slot reading ≡ true) }
         ensures none { IfNone result ((s : Scenario) (n : ℕ) → Shows self.now s → releases n s reading ≡ []) }
     {
         if self.may_release(reading) {
-            self.held.idle(prefer)
+            self.idle_user(prefer)
         } else {
             None
         }
@@ -241,13 +262,13 @@ impl RatesState {
 
     // The slot for which a free user is to be taken, if there is one.
     fn to_take(&self, free: bool, reading: u64) -> Option<u32>
-        ensures some { IfSome result (λ slot. (free ≡ true) × (slot ≡ length self.now.held)) }
+        ensures some { IfSome result (λ slot. (free ≡ true) × (slot ≡ self.now.held)) }
         ensures may { IfSome result (λ slot. (s : Scenario) → Shows self.now s → may_take s slot reading ≡ true) }
-        ensures few { IfSome result (λ slot. length self.now.held < self.now.max) }
+        ensures few { IfSome result (λ slot. self.now.held < self.now.max) }
         ensures none { IfNone result ((s : Scenario) (n : ℕ) (users : Users) → Shows self.now s → is_some (first_of users.free) ≡ free → takes n s users reading ≡ []) }
     {
         if free && self.may_take(reading) {
-            Some(self.held.count())
+            Some(self.held)
         } else {
             None
         }
@@ -263,16 +284,16 @@ impl RatesState {
     // Whether a user may be taken, if one is free.
     fn may_take(&self, reading: u64) -> bool
         ensures shown { (s : Scenario) (slot : ℕ) → Shows self.now s → result ≡ may_take s slot reading }
-        ensures few { IsTrue result → length self.now.held < self.now.max }
+        ensures few { IsTrue result → self.now.held < self.now.max }
     {
-        self.runs() && self.begin <= reading && reading < self.end && self.held.count() < self.pre
+        self.runs() && self.begin <= reading && reading < self.end && self.held < self.pre
     }
 
     // Whether the scenario may close.
     fn may_close(&self, reading: u64) -> bool
         ensures { (s : Scenario) → Shows self.now s → result ≡ may_close s reading }
     {
-        if self.closed || self.held.count() != 0 {
+        if self.closed || self.held != 0 {
             return false;
         }
         !self.runs() || (self.waiting.first().is_none() && self.end <= reading)
@@ -311,8 +332,8 @@ impl RatesState {
                 due,
             };
         }
-        let slot = self.held.count();
-        if slot < self.held.room() {
+        let slot = self.held;
+        if slot < self.max {
             Wish::More {
                 item,
                 until,

@@ -7,9 +7,8 @@ use Rattle.std.proofs.lemmas.Grind.{common_steps}
 use Rattle.std.proofs.lemmas.List.{get_or-set_same, get_or-replicate, get_or-set_other, length-replicate, take_more}
 use Rattle.std.proofs.lemmas.List.Elements.{filter_map-append}
 use Rattle.std.proofs.lemmas.Option.{unwrap_or-slice_get, slice_get_past}
-use Rattle.ld_core.proofs.BusyLemmas.{least_more}
 use Rattle.ld_machine.specs.Wait.{least_of}
-use Rattle.ld_machine.proofs.CandidateLemmas.{least_tells, no_least}
+use Rattle.ld_machine.proofs.CandidateLemmas.{least_more, least_tells, no_least}
 use Rattle.ld_machine.proofs.FirstOfAllLemmas.{In-of}
 use Rattle.ld_machine.proofs.ListLemmas.{In, here, there, Contains-from_In, nothing_in, some_not_none}
 use Rattle.ld_rehearsal.specs.Dues.{due_at, ends_of}

@@ -10,7 +10,7 @@ use Rattle.ld_machine.specs.Plan.{Part, owned_items}
 use Rattle.ld_machine.proofs.CountedLemmas.{settled_items_count, settled_starts}
 use Rattle.ld_machine.proofs.ValidPlanLemmas.{rising_distinct}
 use Rattle.ld_plan.specs.PlanView.{PlanView}
-use Rattle.ld_plan.proofs.OneScenarioLemmas.{plan_valid}
+use Rattle.ld_plan.proofs.MadeLemmas.{plan_valid}
 use Rattle.ld_summary.specs.Counts.{acts_in, acts_of, counts_of, plus}
 use Rattle.ld_summary.specs.Planned.{owned_in}
 use Rattle.ld_summary.specs.Summed.{IsSettledOf}

@@ -107,7 +107,7 @@ fn play(alloc: Global, pool: &mut Pool, given: &str) -> Result<String, Fail> {
     if pool.holder(user) != Some(scenario) || pool.is_busy(user) {
         return Err(Fail::from("not idle"));
     }
-    let stint = pool.start(scenario, user, number(item), u64::MAX);
+    let stint = pool.start(0, scenario, user, number(item), u64::MAX);
     let (scenario, user) = (stint.scenario(), stint.user());
     let (item, until) = (stint.item(), stint.until());
     let is_busy = pool.is_busy(user);

@@ -1,10 +1,10 @@
-use Rattle.std.proofs.Common.{rules, ◌≡◌, ◌≤◌, ◌+◌, ℕ, Bool, true, false, cond, List, [], ◌∷◌, length, map, Contains, arith, ap, refl, count_by, if◌then◌else◌}
+use Rattle.std.proofs.Common.{rules, ◌≡◌, ◌≤◌, ℕ, Bool, true, false, cond, List, [], ◌∷◌, length, map, arith, ap, refl}
 use Rattle.std.specs.Prelude.{◌-◌}
 use Rattle.std.specs.List.{list_any}
 use Rattle.std.proofs.lemmas.List.Sums.{count_by-le-length}
 use Rattle.ld_machine.specs.Plan.{Executor, Part, RampingSlot, RampingVus, hard_moment}
 use Rattle.ld_machine.specs.Requirement.{executor_extra, executor_need, extra, is_before, need, needs_user}
-use Rattle.ld_machine.specs.FurtherExamples.{ramping_plan, ramping_slots}
+use Rattle.ld_machine.specs.FurtherExamples.{ramping_slots}
 use Rattle.ld_machine.proofs.valid_plans.two_valid_plans.Goals as goal
 
 -- a part of ramping users plans no more users than it has slots, and adds none

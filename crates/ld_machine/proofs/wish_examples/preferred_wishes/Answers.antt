@@ -1,12 +1,9 @@
-use Rattle.std.proofs.Common.{◌≡◌, ℕ, false, List, [], ◌∷◌, None, Some, refl, sym}
-use Rattle.std.specs.Prelude.{is_some}
+use Rattle.std.proofs.Common.{false, refl}
 use Rattle.ld_base.specs.declared.wish.Wish.TheVariants.{Release, Start}
-use Rattle.ld_machine.specs.Plan.{Executor}
-use Rattle.ld_machine.specs.Scenario.{first_of}
-use Rattle.ld_machine.specs.Moves.{Users, ReleaseUser, StartIteration}
+use Rattle.ld_machine.specs.Moves.{ReleaseUser, StartIteration}
 use Rattle.ld_machine.specs.Wishes.{WishesFirst}
 use Rattle.ld_machine.specs.WishExamples.{two_idle, two_loops, one_each, two_ramps, two_controlled}
-use Rattle.ld_machine.proofs.ListLemmas.{In, here, there}
+use Rattle.ld_machine.proofs.ListLemmas.{here, there}
 use Rattle.ld_machine.proofs.TwoIdleLemmas.{neither_named, not_preferred, told_of_two}
 use Rattle.ld_machine.proofs.wish_examples.preferred_wishes.Goals as goal
 

@@ -1,15 +1,18 @@
-use Rattle.ld_core.proofs.OtherLemmas.{closed_shown, no_stop_shown, over, stop_is_first}
+use Rattle.std.proofs.Common.{◌∙◌, sym, rules}
+use Rattle.ld_core.proofs.AskLemmas.{waits}
+use Rattle.ld_core.proofs.FirstLemmas.{free_told}
+use Rattle.ld_core.proofs.OtherLemmas.{over}
 use Rattle.ld_core.proofs.machine.Core.act.Goals as goal
 
-pub returns-then-is_closed : goal.returns-then-is_closed
-returns-then-is_closed c = over c.args.self.now c.args.thread c.args.reading (closed_shown c.self.inside c.self.invariant c.args.self.now c.self.view_is _ c.if-is_closed.ensures)
+pub returns-then-all_closed : goal.returns-then-all_closed
+returns-then-all_closed c = over c.args.self.now c.args.thread c.args.reading (sym c.all_closed.ensures ∙ c.if-all_closed.true)
 
-pub act_stop-requires : goal.act_stop-requires
-act_stop-requires c =
-    record { first = stop_is_first c.self.inside c.self.invariant c.args.self.now c.self.view_is c.args.reading (closed_shown c.self.inside c.self.invariant c.args.self.now c.self.view_is _ c.if-is_closed.ensures) c.if-may_stop.ensures }
+pub first-requires : goal.first-requires
+first-requires c = record { free = free_told c.self.inside c.self.invariant c.args.self.now c.self.view_is _ (search rules) }
 
-pub act_wished-requires-clause-goes_on : goal.act_wished-requires-clause-goes_on
-act_wished-requires-clause-goes_on c = closed_shown c.self.inside c.self.invariant c.args.self.now c.self.view_is _ c.if-is_closed.ensures
+pub act_first-requires-clause-free : goal.act_first-requires-clause-free
+act_first-requires-clause-free c = free_told c.self.inside c.self.invariant c.args.self.now c.self.view_is _ (search rules)
 
-pub act_wished-requires-clause-no_stop : goal.act_wished-requires-clause-no_stop
-act_wished-requires-clause-no_stop c = no_stop_shown c.self.inside c.self.invariant c.args.self.now c.self.view_is c.args.reading c.if-may_stop.ensures
+pub returns-in-None : goal.returns-in-None
+returns-in-None c =
+    waits c.args.self.now c.args.thread c.args.reading c.wait_moment.result (sym c.all_closed.ensures ∙ c.if-all_closed.false) c.in-None.ensures.none c.wait_moment.ensures

@@ -1,21 +1,22 @@
-use Rattle.std.proofs.Common.{refl}
+use Rattle.std.proofs.Common.{◌∙◌, refl, sym}
 use Rattle.ld_base.specs.declared.act.Act.TheVariants.{Drop}
 use Rattle.ld_machine.specs.Moves.{AnswerArrival, DropArrival}
-use Rattle.ld_core.proofs.AskLemmas.{answered_next, performed_act, refused_act, room_left}
+use Rattle.ld_core.specs.CoreView.{plan_of, state_of}
+use Rattle.ld_core.proofs.AskLemmas.{entries_alone, answered_next, performed_act, refused_act, room_alone}
 use Rattle.ld_core.proofs.machine.Core.act_drop.Goals as goal
 
 pub returns-in-Some : goal.returns-in-Some
 returns-in-Some c =
-    refused_act c.args.self.now c.in-Some.ensures.single c.args.thread c.args.reading (AnswerArrival 0 c.requires.first.1.0 c.args.item c.requires.first.0 DropArrival) c.in-Some.full c.requires.first.1.1 refl c.in-Some.ensures.refusal
+    refused_act c.args.self.now c.args.thread c.args.reading (AnswerArrival c.args.scenario c.requires.first.1.0 c.args.item c.requires.first.0 DropArrival) c.in-Some.full c.requires.first.1.1
+    (c.in-Some.ensures ∙ sym (entries_alone (plan_of c.args.self.now) (state_of c.args.self.now) c.args.scenario 1))
 
 pub note-requires-clause-may : goal.note-requires-clause-may
-note-requires-clause-may c =
-    (refl, answered_next c.args.self.now c.in-None.ensures.single c.args.thread c.args.reading c.requires.first.1.0 c.args.item c.requires.first.0 DropArrival c.requires.first.1.1)
+note-requires-clause-may c = (refl, answered_next c.args.self.now c.args.thread c.args.reading c.args.scenario c.requires.first.1.0 c.args.item c.requires.first.0 DropArrival c.requires.first.1.1)
 
 pub note-requires-clause-room : goal.note-requires-clause-room
-note-requires-clause-room c = room_left c.args.self.now 1 0 c.in-None.ensures.refusal
+note-requires-clause-room c = room_alone c.args.self.now 1 0 c.in-None.ensures
 
 pub returns-in-None : goal.returns-in-None
 returns-in-None c =
-    performed_act c.args.self.now c.in-None.ensures.single c.args.thread c.args.reading (AnswerArrival 0 c.requires.first.1.0 c.args.item c.requires.first.0 DropArrival) (Drop 0 c.args.item) c.note.new.self
-    c.requires.first.1.1 refl refl c.in-None.ensures.refusal c.note.ensures.added
+    performed_act c.args.self.now c.args.thread c.args.reading (AnswerArrival c.args.scenario c.requires.first.1.0 c.args.item c.requires.first.0 DropArrival) (Drop c.args.scenario c.args.item) c.note.new.self c.requires.first.1.1 refl
+    (c.in-None.ensures ∙ sym (entries_alone (plan_of c.args.self.now) (state_of c.args.self.now) c.args.scenario 1)) c.note.ensures.added

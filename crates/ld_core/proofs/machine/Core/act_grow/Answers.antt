@@ -2,44 +2,53 @@ use Rattle.std.proofs.Common.{◌+◌, refl}
 use Rattle.ld_base.specs.declared.act.Act.TheVariants.{Grow, Start}
 use Rattle.ld_machine.specs.Moves.{AnswerArrival, GrowAndStart}
 use Rattle.ld_core.specs.CoreView.{state_of}
-use Rattle.ld_core.proofs.AskLemmas.{answered_next, grown_below, grown_more, holds_grown, next_still, performed_two, refused_act, room_at_all, room_left, room_still, samples_left, samples_still}
+use Rattle.ld_core.proofs.AskLemmas.{answered_next, first_inside, grown_below, grown_more, holds_grown, next_still, performed_two, refused_act, room_at_all, room_left, room_still, samples_left, samples_still}
 use Rattle.ld_core.proofs.machine.Core.act_grow.Goals as goal
+
+pub full_to_start-requires-clause-of_plan : goal.full_to_start-requires-clause-of_plan
+full_to_start-requires-clause-of_plan c =
+    first_inside c.args.self.now c.args.thread c.args.reading (AnswerArrival c.args.scenario c.requires.first.0 c.args.item c.args.until (GrowAndStart ((state_of c.args.self.now).made + 1) c.args.slot)) c.requires.first.1
 
 pub returns-in-Some : goal.returns-in-Some
 returns-in-Some c =
-    refused_act c.args.self.now c.in-Some.ensures.single c.args.thread c.args.reading (AnswerArrival 0 c.requires.first.0 c.args.item c.args.until (GrowAndStart ((state_of c.args.self.now).made + 1) c.args.slot))
-    c.in-Some.full c.requires.first.1 refl c.in-Some.ensures.refusal
+    refused_act c.args.self.now c.args.thread c.args.reading (AnswerArrival c.args.scenario c.requires.first.0 c.args.item c.args.until (GrowAndStart ((state_of c.args.self.now).made + 1) c.args.slot)) c.in-Some.full c.requires.first.1 c.in-Some.ensures
 
 pub grow-user-requires-clause-below : goal.grow-user-requires-clause-below
 grow-user-requires-clause-below c =
-    grown_below c.args.self.now c.in-None.ensures.single c.args.thread c.args.reading c.requires.first.0 c.args.item c.args.until ((state_of c.args.self.now).made + 1) c.args.slot c.requires.first.1
+    grown_below c.args.self.now c.args.thread c.args.reading c.args.scenario c.requires.first.0 c.args.item c.args.until ((state_of c.args.self.now).made + 1) c.args.slot c.requires.first.1
 
 pub grow-user-requires-clause-more : goal.grow-user-requires-clause-more
 grow-user-requires-clause-more c =
-    grown_more c.args.self.now c.in-None.ensures.single c.args.thread c.args.reading c.requires.first.0 c.args.item c.args.until ((state_of c.args.self.now).made + 1) c.args.slot c.requires.first.1
+    grown_more c.args.self.now c.args.thread c.args.reading c.args.scenario c.requires.first.0 c.args.item c.args.until ((state_of c.args.self.now).made + 1) c.args.slot c.requires.first.1
 
 pub grow-user-requires-clause-room : goal.grow-user-requires-clause-room
-grow-user-requires-clause-room c = room_at_all c.args.self.now (room_left c.args.self.now 2 1 c.in-None.ensures.refusal)
+grow-user-requires-clause-room c = room_at_all c.args.self.now (room_left c.args.self.now c.args.scenario 2 1 c.in-None.ensures)
 
 pub start-requires-clause-next : goal.start-requires-clause-next
 start-requires-clause-next c =
-    next_still c.args.self.now c.in-None.ensures.single c.args.thread c.args.reading c.grow-user.new.self (holds_grown c.args.self.now c.in-None.ensures.single c.args.thread c.args.reading c.grow-user.new.self c.grow-user.result c.args.slot c.grow-user.ensures.added) c.args.item
-    (answered_next c.args.self.now c.in-None.ensures.single c.args.thread c.args.reading c.requires.first.0 c.args.item c.args.until (GrowAndStart ((state_of c.args.self.now).made + 1) c.args.slot) c.requires.first.1)
+    next_still c.args.self.now c.args.thread c.args.reading c.grow-user.new.self c.args.scenario
+    (holds_grown c.args.self.now c.args.thread c.args.reading c.grow-user.new.self c.args.scenario c.grow-user.result c.args.slot
+    (AnswerArrival c.args.scenario c.requires.first.0 c.args.item c.args.until (GrowAndStart ((state_of c.args.self.now).made + 1) c.args.slot)) c.requires.first.1 refl c.grow-user.ensures.added) c.args.item
+    (answered_next c.args.self.now c.args.thread c.args.reading c.args.scenario c.requires.first.0 c.args.item c.args.until (GrowAndStart ((state_of c.args.self.now).made + 1) c.args.slot) c.requires.first.1)
 
 pub start-requires-clause-samples : goal.start-requires-clause-samples
 start-requires-clause-samples c =
-    samples_still c.args.self.now c.in-None.ensures.single c.args.thread c.args.reading c.grow-user.new.self (holds_grown c.args.self.now c.in-None.ensures.single c.args.thread c.args.reading c.grow-user.new.self c.grow-user.result c.args.slot c.grow-user.ensures.added)
-    (samples_left c.args.self.now 2 c.in-None.ensures.refusal)
+    samples_still c.args.self.now c.args.thread c.args.reading c.grow-user.new.self c.args.scenario
+    (holds_grown c.args.self.now c.args.thread c.args.reading c.grow-user.new.self c.args.scenario c.grow-user.result c.args.slot
+    (AnswerArrival c.args.scenario c.requires.first.0 c.args.item c.args.until (GrowAndStart ((state_of c.args.self.now).made + 1) c.args.slot)) c.requires.first.1 refl c.grow-user.ensures.added)
+    (samples_left c.args.self.now c.args.scenario 2 c.in-None.ensures)
 
 pub start-requires-clause-room : goal.start-requires-clause-room
 start-requires-clause-room c =
-    room_still c.args.self.now c.in-None.ensures.single c.args.thread c.args.reading c.grow-user.new.self (holds_grown c.args.self.now c.in-None.ensures.single c.args.thread c.args.reading c.grow-user.new.self c.grow-user.result c.args.slot c.grow-user.ensures.added)
-    (room_left c.args.self.now 2 1 c.in-None.ensures.refusal)
+    room_still c.args.self.now c.args.thread c.args.reading c.grow-user.new.self c.args.scenario
+    (holds_grown c.args.self.now c.args.thread c.args.reading c.grow-user.new.self c.args.scenario c.grow-user.result c.args.slot
+    (AnswerArrival c.args.scenario c.requires.first.0 c.args.item c.args.until (GrowAndStart ((state_of c.args.self.now).made + 1) c.args.slot)) c.requires.first.1 refl c.grow-user.ensures.added)
+    (room_left c.args.self.now c.args.scenario 2 1 c.in-None.ensures)
 
 pub returns-in-None : goal.returns-in-None
 returns-in-None c =
     let number = c.grow-user.ensures.number in
     rw c.start.ensures.stint
-    (performed_two c.args.self.now c.in-None.ensures.single c.args.thread c.args.reading (AnswerArrival 0 c.requires.first.0 c.args.item c.args.until (GrowAndStart c.grow-user.result c.args.slot))
-    (Grow 0 c.grow-user.result c.args.slot) (Start 0 c.grow-user.result c.args.item c.args.until) c.grow-user.new.self c.start.new.self
-    (rw number c.requires.first.1) refl refl c.in-None.ensures.refusal c.grow-user.ensures.added c.start.ensures.added)
+    (performed_two c.args.self.now c.args.thread c.args.reading (AnswerArrival c.args.scenario c.requires.first.0 c.args.item c.args.until (GrowAndStart c.grow-user.result c.args.slot))
+    (Grow c.args.scenario c.grow-user.result c.args.slot) (Start c.args.scenario c.grow-user.result c.args.item c.args.until) c.grow-user.new.self c.start.new.self
+    (rw number c.requires.first.1) refl c.in-None.ensures c.grow-user.ensures.added c.start.ensures.added)

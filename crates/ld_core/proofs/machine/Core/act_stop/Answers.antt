@@ -1,17 +1,22 @@
-use Rattle.std.proofs.Common.{refl}
+use Rattle.std.proofs.Common.{◌∙◌, refl, sym}
 use Rattle.ld_base.specs.declared.act.Act.TheVariants.{Stop}
 use Rattle.ld_machine.specs.Moves.{StopScenario}
-use Rattle.ld_core.proofs.AskLemmas.{performed_act, refused_act, room_left}
+use Rattle.ld_core.specs.CoreView.{plan_of, state_of}
+use Rattle.ld_core.proofs.AskLemmas.{entries_alone, first_inside, performed_act, refused_act, room_alone}
 use Rattle.ld_core.proofs.machine.Core.act_stop.Goals as goal
 
 pub returns-in-Some : goal.returns-in-Some
 returns-in-Some c =
-    refused_act c.args.self.now c.in-Some.ensures.single c.args.thread c.args.reading (StopScenario 0) c.in-Some.full c.requires.first refl c.in-Some.ensures.refusal
+    refused_act c.args.self.now c.args.thread c.args.reading (StopScenario c.args.scenario) c.in-Some.full c.requires.first
+    (c.in-Some.ensures ∙ sym (entries_alone (plan_of c.args.self.now) (state_of c.args.self.now) c.args.scenario 1))
+
+pub note-requires-clause-may : goal.note-requires-clause-may
+note-requires-clause-may c = (refl, first_inside c.args.self.now c.args.thread c.args.reading (StopScenario c.args.scenario) c.requires.first)
 
 pub note-requires-clause-room : goal.note-requires-clause-room
-note-requires-clause-room c = room_left c.args.self.now 1 0 c.in-None.ensures.refusal
+note-requires-clause-room c = room_alone c.args.self.now 1 0 c.in-None.ensures
 
 pub returns-in-None : goal.returns-in-None
 returns-in-None c =
-    performed_act c.args.self.now c.in-None.ensures.single c.args.thread c.args.reading (StopScenario 0) (Stop 0) c.note.new.self c.requires.first refl refl
-    c.in-None.ensures.refusal c.note.ensures.added
+    performed_act c.args.self.now c.args.thread c.args.reading (StopScenario c.args.scenario) (Stop c.args.scenario) c.note.new.self c.requires.first refl
+    (c.in-None.ensures ∙ sym (entries_alone (plan_of c.args.self.now) (state_of c.args.self.now) c.args.scenario 1)) c.note.ensures.added

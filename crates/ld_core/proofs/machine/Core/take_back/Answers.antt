@@ -1,9 +1,8 @@
 use Rattle.std.proofs.Common.{rules}
 use Rattle.ld_core.proofs.OtherLemmas.{returned}
-use Rattle.ld_core.proofs.ShowsLemmas.{single_shown}
 use Rattle.ld_core.proofs.machine.Core.take_back.Goals as goal
 
 pub returns : goal.returns
 returns c =
-    returned c.args.self.now c.give_back.new.self (single_shown c.self.inside c.self.invariant c.args.self.now c.self.view_is) c.args.thread c.args.reading c.args.stint c.args.finished c.args.tally c.requires.may
+    returned c.args.self.now c.give_back.new.self c.args.thread c.args.reading c.args.stint c.args.finished c.args.tally c.requires.may
     c.outcome_of-outcome.result (search rules) c.give_back.ensures.added

@@ -1,6 +1,6 @@
 use Rattle.std.proofs.Common.{arith, sym}
 use Rattle.ld_plan.specs.Plan.{plan_view}
-use Rattle.ld_plan.proofs.OneScenarioLemmas.{plan_few, plan_timed, plan_valid}
+use Rattle.ld_plan.proofs.MadeLemmas.{plan_few, plan_timed, plan_valid}
 use Rattle.ld_plan.proofs.plan.Plan.users.Goals as goal
 
 pub returns-clause-most : goal.returns-clause-most

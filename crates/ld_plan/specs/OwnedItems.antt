@@ -1,0 +1,48 @@
+-- What a position owns of a scenario's users and items.
+use Rattle.std.specs.Prelude.{◌≡◌, ℕ, List, Contains}
+use Rattle.ld_stripe.specs.Striping.{Striping, IsStripingOf, shares_at}
+use Rattle.ld_arrival.specs.Timetable.{Timetable, Constant, planned_count}
+use Rattle.ld_machine.specs.Plan as machine
+use Rattle.ld_machine.specs.Plan.{Arrival}
+use Rattle.ld_machine.specs.Scenario.{executor_arrivals}
+use Rattle.ld_options.specs.declared.executor.Executor.{Executor}
+use Rattle.ld_options.specs.declared.executor.Executor.TheVariants.{ConstantArrivals}
+use Rattle.ld_plan.specs.Executor.{max_of, owned_executor, timetable_of}
+use Rattle.ld_plan.specs.declared.owned_arrivals.ConstantRate.{ConstantRate}
+use Rattle.ld_plan.specs.declared.users.Users.{Users}
+
+-- what is owned of a scenario, as the machine has it; and of the whole test how many items there are, when its arrivals
+-- are due, and how its items are striped
+pub record OwnedView : Type 0 where
+  pub executor : machine.Executor
+  pub whole_items : ℕ
+  pub timetable : Timetable
+  pub owners : List ℕ
+
+-- the owned arrivals of this item are due at this moment, counted from the scenario's begin
+pub record AreDueAt (owned : OwnedView) (item moment : ℕ) : Type 0 where
+  pub due : (a : Arrival) → Contains (executor_arrivals owned.executor) a → a.item ≡ item → moment ≡ a.moment
+
+-- arrivals at a constant rate: when they are due, and the executor that says so with these numbers of users
+abbrev pub timetable_at : ConstantRate → Timetable
+timetable_at r = Constant r.rate r.unit r.duration
+
+abbrev pub constant_arrivals : ConstantRate → Users → Executor
+constant_arrivals r users = ConstantArrivals r.rate r.unit r.duration users.planned users.limit
+
+-- what position j owns of an executor, where its items and its users are striped so
+abbrev pub owned_of : Striping → Striping → ℕ → Executor → OwnedView
+owned_of striping items j executor =
+    record {
+      executor = owned_executor executor items.owners striping j;
+      whole_items = planned_count (timetable_of executor);
+      timetable = timetable_of executor;
+      owners = items.owners;
+    }
+
+-- this is what position j owns of it: the items are striped by the shares that the positions have of its greatest number
+-- of users
+pub record IsOwnedOf (striping : Striping) (j : ℕ) (executor : Executor) (owned : OwnedView) : Type 0 where
+  pub items : Striping
+  pub rescaled : IsStripingOf (shares_at striping (max_of executor)) items
+  pub owned_is : owned ≡ owned_of striping items j executor

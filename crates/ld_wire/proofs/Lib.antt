@@ -1,0 +1,14 @@
+pub mod OrderLemmas
+pub mod AppendLemmas
+pub mod ReadingLemmas
+pub mod FramingLemmas
+pub mod DigitLemmas
+pub mod FoundLemmas
+pub mod ChainLemmas
+pub mod PieceLemmas
+pub mod ChunkLemmas
+pub mod ResponseLemmas
+pub mod StayLemmas
+pub mod TrailerLemmas
+pub mod StandingLemmas
+pub mod SizeLemmas

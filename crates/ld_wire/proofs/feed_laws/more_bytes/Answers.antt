@@ -1,0 +1,8 @@
+use Rattle.ld_wire.proofs.StayLemmas.{begin_stays, fault_stays}
+use Rattle.ld_wire.proofs.feed_laws.more_bytes.Goals as goal
+
+pub returns-clause-whole : goal.returns-clause-whole
+returns-clause-whole c = begin_stays
+
+pub returns-clause-refused : goal.returns-clause-refused
+returns-clause-refused c = fault_stays

@@ -1,0 +1,9 @@
+pub mod Order
+pub mod Request
+pub mod Reading
+pub mod Head
+pub mod Chunks
+pub mod Response
+pub mod Trailer
+pub mod Found
+pub mod Standing

@@ -1,0 +1,27 @@
+//! What is sent over a link, and what comes back: the text of a request (RFC 9112), and what a response is.
+//!
+//! `specs/Request.antt` says the text of a request, line by line, and `specs/Response.antt` the grammar of
+//! responses and what is refused of bytes that are none. What reads one, in any pieces, is built of the steps
+//! that stand here; the reader itself isn't there yet.
+#![tactic(auto)]
+
+mod data;
+mod fault;
+mod feed_laws;
+mod follows;
+mod framing;
+mod head;
+mod headers;
+mod laws;
+mod length;
+mod order;
+mod place;
+mod request;
+mod size;
+mod size_step;
+mod trailer;
+
+pub use fault::WireFault;
+pub use feed_laws::{heads_as_examples, more_bytes, one_refusal, one_response};
+pub use laws::{content_framed, one_order, request_read_back};
+pub use request::request_text;
