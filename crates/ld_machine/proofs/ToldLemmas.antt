@@ -1,5 +1,5 @@
 -- What a scenario may be told of: the acts that its enabled moves write, behind which held users stay in order.
-use Rattle.std.proofs.Common.{Contains, ◌≡◌, ◌≤◌, ◌<◌, ◌+◌, ◌==◌, ◌&&◌, ◌∙◌, ◌⊎◌, ℕ, zero, suc, Bool, true, false, cond, not, nat_lt, nat_le, is_some, List, [], ◌∷◌, ◌++◌, Some, find, map, filter, arith, refl, sym, ap, subst, inl, inr, slice_index}
+use Rattle.std.proofs.Common.{Contains, ◌≡◌, ◌≤◌, ◌<◌, ◌+◌, ◌==◌, ◌&&◌, ◌∙◌, ◌⊎◌, ℕ, zero, suc, Bool, true, false, cond, not, nat_lt, nat_le, is_some, List, [], ◌∷◌, ◌++◌, Option, None, Some, find, map, filter, arith, refl, sym, ap, subst, inl, inr, slice_index}
 use Rattle.std.specs.List.{list_any}
 use Rattle.std.specs.List.Sorted.{IsStrictlyIncreasing}
 use Rattle.std.proofs.lemmas.Bool.{ltb-true, ltb-false, leb-true, lt-ltb, eqb-false, cases_lt, or_parts, and_from}
@@ -10,13 +10,12 @@ use Rattle.ld_base.specs.declared.command.Command.TheVariants as commands
 use Rattle.ld_machine.specs.Plan.{Arrival, Executor, SharedIterations, PerVuIterations, ConstantVus, RampingVus, ArrivalRate, ExternallyControlled, Part, owned_items, owned_slots, hard_moment}
 use Rattle.ld_machine.specs.State.{StartsNothing, Condition, Idle, Busy, HeldUser, Share, is_idle, idle_users, held_count}
 use Rattle.ld_machine.specs.Scenario.{Scenario, first_of, runs, is_live, has_ended, is_open_item, least_open_item, slot_open_item, has_open_item, slot_has_open_item, is_held_slot, is_slot_on, slots_to_take, executor_may_take, may_hold_more, executor_max_vus, executor_arrivals, due_arrival, executor_item_to_start, executor_item_to_drop, until_of}
-use Rattle.ld_machine.specs.Moves.{CountLate, StartOn, GrowAndStart, TakeAndStart, DropArrival, Move, Users, moves_of}
+use Rattle.ld_machine.specs.Moves.{Answer, CountLate, StartOn, GrowAndStart, TakeAndStart, DropArrival, Move, TakeUser, AnswerArrival, Users, moves_of}
 use Rattle.ld_machine.specs.Acts.{acts_of}
 use Rattle.ld_machine.specs.Commands.{stop_commanded_share}
 use Rattle.ld_machine.specs.Effect.{with_user, if_user, hold, put_condition, end_item}
 use Rattle.ld_machine.specs.ShareEffect.{share_after}
-use Rattle.ld_machine.specs.Together.{holds}
-use Rattle.ld_machine.specs.Told.{MayBeTold, IsNewcomer, IsHeldInOrder, users_fit, executor_has_place, executor_next_item, newcomer_of}
+use Rattle.ld_machine.specs.Told.{MayBeTold, IsHeldInOrder, users_fit, executor_has_place, executor_next_item, newcomer_of}
 use Rattle.ld_machine.proofs.ListLemmas.{In, here, there, nothing_in, filter-In, Contains-from_In, any-from_In, both_true, number_itself, In-one}
 use Rattle.ld_machine.proofs.SourceLemmas.{Source, by_stop, by_release, by_take, by_arrival, by_start, by_drop, by_close, source_of, grow_answer, taken_answer, on_answer}
 use Rattle.ld_machine.proofs.DropLemmas.{due_tells}
@@ -128,16 +127,6 @@ arrival_place (ExternallyControlled _ _ _) s a slot h more = absurd (cc)
 
 -- ---- the first act of an enabled move
 
--- a user that comes with the act has a number from 1 to 1,000, and isn't held
-abbrev ComesNew : Scenario → Act → Type 0
-ComesNew s act = (user : ℕ) → newcomer_of act ≡ Some user → (1 ≤ user) × (user ≤ 1000) × (holds user s.share ≡ false)
-
-newcomer : (s : Scenario) (act : Act) (user slot : ℕ) → ComesNew s act → newcomer_of act ≡ Some user →
-    executor_has_place s.part.executor s slot ≡ true → IsNewcomer s user slot
-newcomer s act user slot comes new place =
-    let told = comes user new in
-    record { some = told.0; few = told.1; fresh = told.2; place = place }
-
 -- the act that is written first
 heads : {A : Type 0} {x y : A} {xs ys : List A} → x ∷ xs ≡ y ∷ ys → x ≡ y
 heads e = cc
@@ -145,42 +134,94 @@ heads e = cc
 told_by : (s : Scenario) (one act : Act) (xs ys : List Act) → one ∷ xs ≡ act ∷ ys → MayBeTold s one → MayBeTold s act
 told_by s one act xs ys e told = subst (λ (a : Act). MayBeTold s a) (heads e) told
 
-new_by : (s : Scenario) (one act : Act) (xs ys : List Act) → one ∷ xs ≡ act ∷ ys → ComesNew s act → ComesNew s one
-new_by s one act xs ys e comes = subst (λ (a : Act). ComesNew s a) (sym (heads e)) comes
+-- an act that brings a user isn't one that brings none
+brings : (one act : Act) (xs ys : List Act) (user : ℕ) → newcomer_of one ≡ Some user → one ∷ xs ≡ act ∷ ys → newcomer_of act ≡ None → ⊥
+brings one act xs ys user some e none =
+    let same = heads e in
+    let both : newcomer_of act ≡ Some user = subst (λ (a : Act). newcomer_of a ≡ Some user) same some in
+    absurd (cc)
 
-module _ (users : Users) (n : ℕ) (s : Scenario) (t : ℕ) (fits : users_fit s.part.executor ≡ true) where
-  move_told : (move : Move) → Source users n s t move → (act : Act) (rest : List Act) → acts_of move ≡ act ∷ rest → ComesNew s act → MayBeTold s act
-  move_told move (by_stop may) act rest e comes = told_by s (Stop n) act [] rest e tt
-  move_told move (by_release h idle may) act rest e comes = told_by s (Release n h.user) act [] rest e (h, Contains-from_In h idle, refl)
-  move_told move (by_take user slot free slots may) act rest e comes =
-      told_by s (Take n user slot) act [] rest e
-      (newcomer s (Take n user slot) user slot (new_by s (Take n user slot) act [] rest e comes) refl (take_place s.part.executor s slot t fits slots may))
-  move_told move (by_start h item idle may) act rest e comes =
+-- the slot on which an answer to an arrival brings a user
+abbrev comes_on : Answer → Option ℕ
+comes_on (GrowAndStart user slot) = Some slot
+comes_on (TakeAndStart user slot) = Some slot
+comes_on _ = None
+
+module _ (users : Users) (n : ℕ) (s : Scenario) (t : ℕ) where
+  move_told : (move : Move) → Source users n s t move → (act : Act) (rest : List Act) → acts_of move ≡ act ∷ rest → newcomer_of act ≡ None → MayBeTold s act
+  move_told move (by_stop may) act rest e old = told_by s (Stop n) act [] rest e tt
+  move_told move (by_release h idle may) act rest e old = told_by s (Release n h.user) act [] rest e (h, Contains-from_In h idle, refl)
+  move_told move (by_take user slot free slots may) act rest e old = absurd (brings (Take n user slot) act [] rest user refl e old)
+  move_told move (by_start h item idle may) act rest e old =
       told_by s (Start n h.user item (until_of s h.slot t)) act [] rest e (h, Contains-from_In h idle, refl, start_next s.part.executor s h.slot t item may)
-  move_told move (by_drop item may) act rest e comes = told_by s (Drop n item) act [] rest e (drop_least s.part.executor s t item may)
-  move_told move (by_close may) act rest e comes = told_by s (Close n) act [] rest e tt
-  move_told move (by_arrival a CountLate due at) act rest e comes = told_by s (Late n a.item) act [] rest e (due_item s t a due)
-  move_told move (by_arrival a DropArrival due at) act rest e comes = told_by s (Drop n a.item) act [] rest e (due_item s t a due)
-  move_told move (by_arrival a (StartOn user) due at) act rest e comes =
+  move_told move (by_drop item may) act rest e old = told_by s (Drop n item) act [] rest e (drop_least s.part.executor s t item may)
+  move_told move (by_close may) act rest e old = told_by s (Close n) act [] rest e tt
+  move_told move (by_arrival a CountLate due at) act rest e old = told_by s (Late n a.item) act [] rest e (due_item s t a due)
+  move_told move (by_arrival a DropArrival due at) act rest e old = told_by s (Drop n a.item) act [] rest e (due_item s t a due)
+  move_told move (by_arrival a (StartOn user) due at) act rest e old =
       let on = on_answer users n s t user at in
       told_by s (Start n user a.item (hard_moment s.part)) act [] rest e (on.0, Contains-from_In on.0 on.1, on.2, due_next s t a due on.0.slot)
-  move_told move (by_arrival a (GrowAndStart user slot) due at) act rest e comes =
-      let more = (both_true (may_hold_more s) (nat_lt users.made users.limit) (grow_answer users n s t user slot at).1).0 in
-      told_by s (Grow n user slot) act (Start n user a.item (hard_moment s.part) ∷ []) rest e
-      (newcomer s (Grow n user slot) user slot (new_by s (Grow n user slot) act _ rest e comes) refl
-      (arrival_place s.part.executor s a slot (due_tells s t a due).0 more))
-  move_told move (by_arrival a (TakeAndStart user slot) due at) act rest e comes =
-      let more = (both_true (may_hold_more s) (is_some (first_of users.free)) (taken_answer users n s t user slot at).1).0 in
-      told_by s (Take n user slot) act (Start n user a.item (hard_moment s.part) ∷ []) rest e
-      (newcomer s (Take n user slot) user slot (new_by s (Take n user slot) act _ rest e comes) refl
-      (arrival_place s.part.executor s a slot (due_tells s t a due).0 more))
+  move_told move (by_arrival a (GrowAndStart user slot) due at) act rest e old =
+      absurd (brings (Grow n user slot) act (Start n user a.item (hard_moment s.part) ∷ []) rest user refl e old)
+  move_told move (by_arrival a (TakeAndStart user slot) due at) act rest e old =
+      absurd (brings (Take n user slot) act (Start n user a.item (hard_moment s.part) ∷ []) rest user refl e old)
 
 pub first_told : (n t : ℕ) (users : Users) (s : Scenario) (move : Move) (act : Act) (rest : List Act) →
-    users_fit s.part.executor ≡ true → Contains (moves_of users n s t) move → acts_of move ≡ act ∷ rest →
-    ((user : ℕ) → newcomer_of act ≡ Some user → (1 ≤ user) × (user ≤ 1000) × (holds user s.share ≡ false)) →
-    MayBeTold s act
-first_told n t users s move act rest fits at e comes =
-    move_told users n s t fits move (source_of users n s t move (In-of at)) act rest e comes
+    Contains (moves_of users n s t) move → acts_of move ≡ act ∷ rest → newcomer_of act ≡ None → MayBeTold s act
+first_told n t users s move act rest at e old = move_told users n s t move (source_of users n s t move (In-of at)) act rest e old
+
+-- ---- a place for a user that comes
+
+module _ (users : Users) (n : ℕ) (s : Scenario) (t : ℕ) where
+  place_to_take : (move : Move) → Source users n s t move → (user slot : ℕ) → users_fit s.part.executor ≡ true →
+      TakeUser n user slot ≡ move → executor_has_place s.part.executor s slot ≡ true
+  place_to_take move (by_take user' slot' free slots may) user slot fits e =
+      let same : slot' ≡ slot = cc in
+      subst (λ k. executor_has_place s.part.executor s k ≡ true) same (take_place s.part.executor s slot' t fits slots may)
+  place_to_take move (by_stop may) user slot fits e = absurd (cc)
+  place_to_take move (by_release h idle may) user slot fits e = absurd (cc)
+  place_to_take move (by_start h item idle may) user slot fits e = absurd (cc)
+  place_to_take move (by_drop item may) user slot fits e = absurd (cc)
+  place_to_take move (by_close may) user slot fits e = absurd (cc)
+  place_to_take move (by_arrival a answer due at) user slot fits e = absurd (cc)
+
+  -- what an arrival scenario answers a due arrival with on a user that comes
+  place_to_answer : (move : Move) → Source users n s t move → (due item until slot : ℕ) (answer : Answer) → comes_on answer ≡ Some slot →
+      AnswerArrival n due item until answer ≡ move → executor_has_place s.part.executor s slot ≡ true
+  place_to_answer move (by_arrival a CountLate due' at) due item until slot answer on e = absurd (cc)
+  place_to_answer move (by_arrival a DropArrival due' at) due item until slot answer on e = absurd (cc)
+  place_to_answer move (by_arrival a (StartOn user) due' at) due item until slot answer on e = absurd (cc)
+  place_to_answer move (by_arrival a (GrowAndStart user slot') due' at) due item until slot answer on e =
+      let same : slot' ≡ slot = cc in
+      let more = (both_true (may_hold_more s) (nat_lt users.made users.limit) (grow_answer users n s t user slot' at).1).0 in
+      subst (λ k. executor_has_place s.part.executor s k ≡ true) same (arrival_place s.part.executor s a slot' (due_tells s t a due').0 more)
+  place_to_answer move (by_arrival a (TakeAndStart user slot') due' at) due item until slot answer on e =
+      let same : slot' ≡ slot = cc in
+      let more = (both_true (may_hold_more s) (is_some (first_of users.free)) (taken_answer users n s t user slot' at).1).0 in
+      subst (λ k. executor_has_place s.part.executor s k ≡ true) same (arrival_place s.part.executor s a slot' (due_tells s t a due').0 more)
+  place_to_answer move (by_stop may) due item until slot answer on e = absurd (cc)
+  place_to_answer move (by_release h idle may) due item until slot answer on e = absurd (cc)
+  place_to_answer move (by_take user slot' free slots may) due item until slot answer on e = absurd (cc)
+  place_to_answer move (by_start h item' idle may) due item until slot answer on e = absurd (cc)
+  place_to_answer move (by_drop item' may) due item until slot answer on e = absurd (cc)
+  place_to_answer move (by_close may) due item until slot answer on e = absurd (cc)
+
+pub taken_place : (n t user slot : ℕ) (users : Users) (s : Scenario) → users_fit s.part.executor ≡ true →
+    Contains (moves_of users n s t) (TakeUser n user slot) → executor_has_place s.part.executor s slot ≡ true
+taken_place n t user slot users s fits at =
+    place_to_take users n s t (TakeUser n user slot) (source_of users n s t (TakeUser n user slot) (In-of at)) user slot fits refl
+
+pub grown_place : (n t due item until user slot : ℕ) (users : Users) (s : Scenario) →
+    Contains (moves_of users n s t) (AnswerArrival n due item until (GrowAndStart user slot)) → executor_has_place s.part.executor s slot ≡ true
+grown_place n t due item until user slot users s at =
+    let move = AnswerArrival n due item until (GrowAndStart user slot) in
+    place_to_answer users n s t move (source_of users n s t move (In-of at)) due item until slot (GrowAndStart user slot) refl refl
+
+pub taken_for_place : (n t due item until user slot : ℕ) (users : Users) (s : Scenario) →
+    Contains (moves_of users n s t) (AnswerArrival n due item until (TakeAndStart user slot)) → executor_has_place s.part.executor s slot ≡ true
+taken_for_place n t due item until user slot users s at =
+    let move = AnswerArrival n due item until (TakeAndStart user slot) in
+    place_to_answer users n s t move (source_of users n s t move (In-of at)) due item until slot (TakeAndStart user slot) refl refl
 
 -- ---- the second act
 
