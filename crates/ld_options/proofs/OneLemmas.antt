@@ -1,5 +1,5 @@
 -- A document has one list of options, and one refusal.
-use Rattle.std.proofs.Common.{◌≡◌, ◌<◌, ◌∙◌, ℕ, All, length, List, [], ◌∷◌, ap, ap₂, refl, sym, subst, inl, inr}
+use Rattle.std.proofs.Common.{◌≡◌, ◌<◌, ◌≤◌, ◌∙◌, ℕ, All, length, List, [], ◌∷◌, ap, ap₂, refl, sym, subst, inl, inr}
 use mathlib.Core.HLevel.{is_prop→PathP}
 use Rattle.std.proofs.Props.{props}
 use Rattle.std.specs.Prelude.{◌⊎◌, Option, Result, Ok, Err, Some, codes}
@@ -12,6 +12,7 @@ use Rattle.ld_options.specs.Document.{AreOptions, AreOptionsOf, IsRefusal, OfScr
 use Rattle.ld_options.specs.Executors.{IsExecutor, RefusesArrivals, RefusesExecutor, RefusesGreatest, greatest}
 use Rattle.ld_options.specs.Faults.{Refused, of_script}
 use Rattle.ld_options.specs.Fields.{given}
+use Rattle.ld_options.specs.Ranges.{most_scenarios}
 use Rattle.ld_options.specs.Scenarios.{IsLost, IsScenarioOf, IsScript, RefusesFields, RefusesKnown, RefusesScenario, RefusesScript}
 use Rattle.ld_options.specs.Times.{IsSpan, IsTime, RefusesSpan, RefusesTime, span_text}
 use Rattle.ld_options.specs.declared.executor.Executor.{Executor}
@@ -79,7 +80,8 @@ options_same : (a b : Options) → a.scenarios ≡ b.scenarios → a.scripts ≡
 options_same a b scenarios scripts = λ i. record {
   scenarios = scenarios i;
   scripts = scripts i;
-  one = is_prop→PathP (λ j. length (scenarios j) ≡ 1) (λ j. hlevel props) a.one b.one i;
+  some = is_prop→PathP (λ j. 1 ≤ length (scenarios j)) (λ j. hlevel props) a.some b.some i;
+  few = is_prop→PathP (λ j. length (scenarios j) ≤ most_scenarios) (λ j. hlevel props) a.few b.few i;
   known = is_prop→PathP (λ j. All (λ (s : Scenario). s.script < length (scripts j).names) (scenarios j)) (λ j. hlevel props) a.known b.known i;
 }
 

@@ -8,7 +8,7 @@ use Rattle.ld_json.specs.Pointer.{member_path}
 use Rattle.ld_json.specs.Rules.{Accepts, FirstOf, Then}
 use Rattle.ld_options.specs.Faults.{Refused, and_then, of_node, of_script}
 use Rattle.ld_options.specs.Fields.{ranged}
-use Rattle.ld_options.specs.Ranges.{AreInRange}
+use Rattle.ld_options.specs.Ranges.{AreInRange, most_scenarios}
 use Rattle.ld_options.specs.Scenarios.{IsScenarioOf, RefusesScenario}
 use Rattle.ld_options.specs.declared.fault.OptionsFault.{OptionsFault}
 use Rattle.ld_options.specs.declared.fault.OptionsFault.TheVariants.{Memory, NotJson}
@@ -54,7 +54,7 @@ abbrev pub script_counts : Range
 script_counts = record { least = 0; most = most_scripts }
 
 abbrev pub scenario_counts : Range
-scenario_counts = record { least = 1; most = 1 }
+scenario_counts = record { least = 1; most = most_scenarios }
 
 -- the options that a document says
 pub record AreOptionsOf (root : NodeView) (options : Options) : Type 0 where

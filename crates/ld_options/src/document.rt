@@ -5,7 +5,7 @@ ghost use Rattle.ld_json.specs.Node.{paired};
 ghost use Rattle.ld_json.specs.Rules.{Accepts, FirstOf};
 ghost use Rattle.ld_options.specs.Document.{AreOptionsOf, RefusesDocument, RefusesOptions, RefusesRoot, counted as count_of, inside, object_of, options_in, scripts_in};
 ghost use Rattle.ld_options.specs.Faults.{of_node};
-ghost use Rattle.ld_options.specs.Ranges.{AreInRange, IsWithin};
+ghost use Rattle.ld_options.specs.Ranges.{AreInRange, IsWithin, most_scenarios};
 ghost use Rattle.ld_options.specs.Scenarios.{IsScenarioOf, RefusesScenario};
 ghost use Rattle.ld_options.specs.declared.fault.OptionsFault.TheVariants.{Memory};
 ghost use Rattle.ld_script.specs.Refusal.{members_of};
@@ -29,7 +29,7 @@ const SCRIPT_COUNTS: Range = Range {
 };
 
 /// How many scenarios there may be.
-const SCENARIO_COUNTS: Range = Range { least: 1, most: 1 };
+const SCENARIO_COUNTS: Range = Range { least: 1, most: 20 };
 
 // How many members the object has that the value is.
 fn members_in(alloc: Global, node: &Node<'_>) -> Result<u64, OptionsFault>
@@ -88,7 +88,7 @@ fn root_objects<'n>(alloc: Global, root: &'n Node<'_>) -> Result<(Node<'n>, Node
 fn scenario_object<'n>(alloc: Global, options: &'n Node<'_>) -> Result<Node<'n>, OptionsFault>
     ensures value { IfOk result (λ node. node ≡ inside options.now (codes "scenarios")) }
     ensures paired { IfOk result (λ node. paired node ≡ Ok (members_of node)) }
-    ensures one { IfOk result (λ node. length (members_of node) ≡ 1) }
+    ensures counted { IfOk result (λ node. IsWithin 1 most_scenarios (length (members_of node))) }
     ensures accepted { OnOk result (Accepts (RefusesOptions options.now)) }
     ensures refused { IfErr result (λ f. f ≢ Memory → RefusesOptions options.now f) }
 {

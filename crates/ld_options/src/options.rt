@@ -1,4 +1,5 @@
-ghost use Rattle.std.specs.Prelude.{◌≡◌, ◌<◌, All, length};
+ghost use Rattle.std.specs.Prelude.{◌<◌, ◌≤◌, All, length};
+ghost use Rattle.ld_options.specs.Ranges.{most_scenarios};
 
 use crate::document::read_root;
 use crate::fault::OptionsFault;
@@ -14,8 +15,10 @@ pub struct Options {
     pub scenarios: Scenarios,
     /// The scripts that they run.
     pub scripts: Scripts,
-    /// There is one scenario.
-    pub ghost one: { length scenarios ≡ 1 },
+    /// There is a scenario.
+    pub ghost some: { 1 ≤ length scenarios },
+    /// There are no more than 20.
+    pub ghost few: { length scenarios ≤ most_scenarios },
     /// The script of each scenario is there.
     pub ghost known: { All (λ s. s.script < length scripts.names) scenarios },
 }

@@ -13,4 +13,3 @@ pub mod UsersLemmas
 pub mod PlanLemmas
 pub mod RefusalLemmas
 pub mod MadeLemmas
-pub mod OneScenarioLemmas

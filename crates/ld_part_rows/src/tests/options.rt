@@ -56,8 +56,9 @@ null => WrongKind
 {"options":{"scenarios":[@]},"scripts":{"second":[]}} => WrongKind /options/scenarios
 {"options":{"scenarios":"main"},"scripts":{"a!":1}} => WrongKind /options/scenarios
 {"options":{"scenarios":{}},"scripts":{"a":1}} => Range /options/scenarios
-{"options":{"scenarios":{"main":@,"other":@}},"scripts":{"second":[]}} => Range /options/scenarios
-{"options":{"scenarios":{"a!":1,"b!":2}},"scripts":{"a!":1}} => Range /options/scenarios
+{"options":{"scenarios":{"a":0,"b":0,"c":0,"d":0,"e":0,"f":0,"g":0,"h":0,"i":0,"j":0,"k":0,"l":0,"m":0,"n":0,"o":0,"p":0,"q":0,"r":0,"s":0,"t":0,"u":0}},"scripts":{"a!":1}} => Range /options/scenarios
+{"options":{"scenarios":{"a":0,"b":0,"c":0,"d":0,"e":0,"f":0,"g":0,"h":0,"i":0,"j":0,"k":0,"l":0,"m":0,"n":0,"o":0,"p":0,"q":0,"r":0,"s":0,"t":0}},"scripts":{"a!":1}} => BadName /scripts/a!
+{"options":{"scenarios":{"a":0,"b":0,"c":0,"d":0,"e":0,"f":0,"g":0,"h":0,"i":0,"j":0,"k":0,"l":0,"m":0,"n":0,"o":0,"p":0,"q":0,"r":0,"s":0,"t":0}},"scripts":{}} => WrongKind /options/scenarios/a
 {"options":{"scenarios":{"a!":1}},"scripts":{"b":[],"a~/":1}} => BadName /scripts/a~0~1
 {"options":{"scenarios":{"a!":1}},"scripts":{"a":{}}} => WrongKind /scripts/a
 {"options":{"scenarios":{"main":@}},"scripts":{"second":[{"sleep":"1s"}]}} => Range /scripts/second
@@ -67,7 +68,33 @@ null => WrongKind
 {"options":{"scenarios":{"a b":{"vus":1}}},"scripts":{}} => BadName /options/scenarios/a b
 {"options":{"scenarios":{"a":[@]}},"scripts":{"second":[]}} => WrongKind /options/scenarios/a
 {"options":{"scenarios":{"a":{}}},"scripts":{}} => Missing /options/scenarios/a/executor
-{"options":{"scenarios":{"a":@}},"scripts":{}} => ScriptUnknown /options/scenarios/a/exec"#;
+{"options":{"scenarios":{"a":@}},"scripts":{}} => ScriptUnknown /options/scenarios/a/exec
+{"options":{"scenarios":{"b!":1,"a!":2}},"scripts":{"b":1}} => WrongKind /scripts/b
+{"options":{"scenarios":{"b!":1,"a!":2}},"scripts":{}} => BadName /options/scenarios/a!
+{"options":{"scenarios":{"b!":1,"a":@}},"scripts":{"second":[]}} => BadName /options/scenarios/b!
+{"options":{"scenarios":{"a":@,"b":{}}},"scripts":{"second":[]}} => Missing /options/scenarios/b/executor
+{"options":{"scenarios":{"b":{},"a":0}},"scripts":{"second":[]}} => WrongKind /options/scenarios/a
+{"options":{"scenarios":{"b":@,"B":@,"a":0}},"scripts":{"second":[]}} => WrongKind /options/scenarios/a
+{"options":{"scenarios":{"b!":1,"a":{"executor":"constant-arrival-rate","rate":1,"duration":"1s","preAllocatedVUs":2,"maxVUs":1}}},"scripts":{"default":[]}} => MaxBelowPre /options/scenarios/a/maxVUs"#;
+
+// Documents of two scenarios, with what they ask for.
+const PAIRS: &str =
+    r#"{"options":{"scenarios":{"main":@,"other":@}},"scripts":{"second":[]}} => main begin 90000000000 grace 1500000000 script 0 of 1 rate 20 unit 2000000000 duration 5400000000000 users 4 5 other begin 90000000000 grace 1500000000 script 0 of 1 rate 20 unit 2000000000 duration 5400000000000 users 4 5
+{"options":{"scenarios":{"b":@,"a":{"executor":"constant-arrival-rate","rate":1,"duration":"1s","preAllocatedVUs":1}}},"scripts":{"second":[],"default":[]}} => a begin 0 grace 30000000000 script 0 of 2 rate 1 unit 1000000000 duration 1000000000 users 1 1 b begin 90000000000 grace 1500000000 script 1 of 2 rate 20 unit 2000000000 duration 5400000000000 users 4 5"#;
+
+// The names of good scenarios in the order of the text, of which the first begins at once, and each a millisecond
+// behind the one before it; with the scenarios that are read, each with the milliseconds of its begin. Where a name
+// stands twice its last value counts.
+const ORDERS: &str = "\
+=> Range /options/scenarios
+main other => main 0 other 1
+other main => main 1 other 0
+b a B _ - 9 10 => - 4 10 6 9 5 B 2 _ 3 a 1 b 0
+a aa a0 a- A => A 4 a 0 a- 3 a0 2 aa 1
+a b a => a 2 b 1
+t s r q p o n m l k j i h g f e d c b a => a 19 b 18 c 17 d 16 e 15 f 14 g 13 h 12 i 11 j 10 k 9 l 8 m 7 n 6 o 5 p 4 q 3 r 2 s 1 t 0
+a b c d e f g h i j k l m n o p q r s t a => a 20 b 1 c 2 d 3 e 4 f 5 g 6 h 7 i 8 j 9 k 10 l 11 m 12 n 13 o 14 p 15 q 16 r 17 s 18 t 19
+u t s r q p o n m l k j i h g f e d c b a => Range /options/scenarios";
 
 // Members of a good scenario that have other values or aren't there, with the cause: one change, and then two of which
 // the second is looked at first.
@@ -179,6 +206,17 @@ fn scenario_text(alloc: Global, changes: &str) -> Result<String, Fail> {
     Ok(format!(in alloc; "{{{members}}}")?)
 }
 
+// The text of an object of good scenarios of these names, each of which begins a millisecond behind the one before.
+fn scenarios_text(alloc: Global, names: &str) -> Result<String, Fail> {
+    let mut members = String::new(alloc);
+    for (at, name) in names.split_whitespace().enumerate() {
+        let begin = format!(in alloc; "startTime {at}")?;
+        let scenario = scenario_text(alloc, begin.as_str())?;
+        add_behind_comma(&mut members, format!(in alloc; "\"{name}\":{scenario}")?)?;
+    }
+    Ok(format!(in alloc; "{{{members}}}")?)
+}
+
 // The text with a scenario in place of each `@`.
 fn filled(alloc: Global, text: &str, scenario: &str) -> Result<String, Fail> {
     let mut filled = String::new(alloc);
@@ -256,6 +294,31 @@ impl Call for Document {
     }
 }
 
+// The scenarios of options, each with the milliseconds of its begin.
+fn begins_told(alloc: Global, options: &Options) -> Result<String, Fail> {
+    let mut line = String::new(alloc);
+    for scenario in options.scenarios.as_slice() {
+        let name = text_of(scenario.name.as_slice());
+        let begin = scenario.begin / 1_000_000;
+        add(&mut line, format!(in alloc; "{name} {begin}")?)?;
+    }
+    Ok(line)
+}
+
+struct Ordered;
+
+impl Call for Ordered {
+    fn answer(alloc: Global, given: &str) -> Result<String, Fail> {
+        let scenarios = scenarios_text(alloc, given)?;
+        let options = r#"{"options":{"scenarios":"#;
+        let text = format!(in alloc; "{options}{scenarios}}},\"scripts\":{{\"second\":[]}}}}")?;
+        match Options::read(alloc, text.as_bytes()) {
+            Ok(options) => begins_told(alloc, &options),
+            Err(fault) => refusal(alloc, &fault),
+        }
+    }
+}
+
 struct ManyScripts;
 
 impl Call for ManyScripts {
@@ -284,6 +347,18 @@ fn refused_scenarios(rt: HostRuntime) -> Result<(), Fail> {
 #[test]
 fn refused_documents(rt: HostRuntime) -> Result<(), Fail> {
     check::<Document, _>(&rt, DOCUMENTS)
+}
+
+/// Documents of two scenarios.
+#[test]
+fn pairs(rt: HostRuntime) -> Result<(), Fail> {
+    check::<Document, _>(&rt, PAIRS)
+}
+
+/// Scenarios in byte order of their names, whatever their order in the text.
+#[test]
+fn ordered_scenarios(rt: HostRuntime) -> Result<(), Fail> {
+    check::<Ordered, _>(&rt, ORDERS)
 }
 
 /// Documents of many scripts.

@@ -1,10 +1,11 @@
 -- What is refused first of a document; and where each part is read, nothing is.
-use Rattle.std.proofs.Common.{◌∙◌, ap, inl, inr, refl, subst}
+use Rattle.std.proofs.Common.{◌≤◌, ◌∙◌, ap, inl, inr, refl, sym, subst}
 use Rattle.std.specs.Prelude.{codes, map}
 use Rattle.ld_json.specs.Rules.{Accepts, FirstOf}
 use Rattle.ld_json.proofs.RulesLemmas.{then_accepts}
 use Rattle.ld_options.specs.Document.{RefusesOptions, inside, scenarios_in, script_names}
 use Rattle.ld_options.specs.Faults.{of_script}
+use Rattle.ld_options.specs.Ranges.{most_scenarios}
 use Rattle.ld_options.specs.Scenarios.{RefusesScenario}
 use Rattle.ld_script.specs.Refusal.{RefusesScripts, members_of}
 use Rattle.ld_script.specs.Scripts.{name_of}
@@ -41,9 +42,13 @@ returns-in_err-scenarios-clause-refused c =
       ),
     ))
 
-pub invariant_of-result-clause-one : goal.invariant_of-result-clause-one
-invariant_of-result-clause-one c =
-    zip_length _ _ _ c.in_ok-scenarios.ensures.value ∙ c.in_ok-node.ensures.one
+pub invariant_of-result-clause-some : goal.invariant_of-result-clause-some
+invariant_of-result-clause-some c =
+    subst (λ n. 1 ≤ n) (sym (zip_length _ _ _ c.in_ok-scenarios.ensures.value)) c.in_ok-node.ensures.counted.at_least
+
+pub invariant_of-result-clause-few : goal.invariant_of-result-clause-few
+invariant_of-result-clause-few c =
+    subst (λ n. n ≤ most_scenarios) (sym (zip_length _ _ _ c.in_ok-scenarios.ensures.value)) c.in_ok-node.ensures.counted.at_most
 
 pub returns-clause-accepted : goal.returns-clause-accepted
 returns-clause-accepted c =
