@@ -7,9 +7,13 @@ use Rattle.ld_base.specs.declared.command.Command.TheVariants.{Stop}
 use Rattle.ld_machine.proofs.BusyLemmas.{same_number}
 use Rattle.ld_machine.proofs.ListLemmas.{number_itself}
 use Rattle.ld_executor.specs.declared.executor_state.ExecutorState.{ExecutorState}
-use Rattle.ld_executor.specs.Shows.{Follows}
-use Rattle.ld_core.specs.Changes.{AllFollow}
-use Rattle.ld_core.proofs.ShownLemmas.{set_itself, set_others}
+use Rattle.ld_executor.specs.Shows.{Follows, MayTell}
+use Rattle.ld_machine.specs.Plan.{Plan}
+use Rattle.ld_machine.specs.State.{State}
+use Rattle.ld_pool.specs.Pool.{PoolView}
+use Rattle.ld_core.specs.Changes.{AllFollow, AllMayTell}
+use Rattle.ld_core.specs.Shows.{Shows}
+use Rattle.ld_core.proofs.ShownLemmas.{set_itself, set_others, shown_there}
 
 -- the scenarios of the numbers below i were told, and the others not yet
 pub record Told (old new : List ExecutorState) (i reading : ℕ) : Type 0 where
@@ -56,3 +60,13 @@ all_told old new i reading all so_far =
       count = so_far.count;
       each = λ n before after old_at new_at. so_far.told n before after (let within = slice_get_within old n before old_at in omega arith) old_at new_at;
     }
+
+-- a scenario that wasn't told yet may be
+pub may_still : (old new : List ExecutorState) (i reading : ℕ) (k : ExecutorState) → Told old new i reading → AllMayTell old (Control Stop) → slice_get new i ≡ Some k →
+    MayTell k (Control Stop)
+may_still old new i reading k so_far may at = may i k (sym (so_far.rest i (omega arith)) ∙ at)
+
+-- each state of a core shows a scenario, which may be told of a stop at any time
+pub stop_may : {plan : Plan} {pool : PoolView} {kept : List ExecutorState} {stopped : Bool} {state : State} → Shows plan pool kept stopped state →
+    AllMayTell kept (Control Stop)
+stop_may shows n k at = let found = shown_there shows n k at in (found.0, found.2, tt)

@@ -4,11 +4,16 @@ use Rattle.ld_base.specs.declared.act.Act.TheVariants.{Control}
 use Rattle.ld_base.specs.declared.command.Command.TheVariants.{Stop}
 use Rattle.ld_machine.proofs.BusyRoomLemmas.{room_command}
 use Rattle.ld_executor.specs.declared.executor_state.ExecutorState.{ExecutorState}
-use Rattle.ld_core.specs.Changes.{AllFollow}
+use Rattle.ld_core.specs.Changes.{AllFollow, AllMayTell}
 use Rattle.ld_core.specs.Shows.{Shows}
 use Rattle.ld_core.proofs.BehindLemmas.{shows_stopped}
 use Rattle.ld_core.proofs.CoreLemmas.{core_behind, room_for, state_behind, state_noted}
+use Rattle.ld_core.proofs.StopLemmas.{stop_may}
 use Rattle.ld_core.proofs.machine.Core.stop_all.Goals as goal
+
+pub stop_each-requires : goal.stop_each-requires
+stop_each-requires c =
+    subst (λ (l : List ExecutorState). AllMayTell l (Control Stop)) (sym c.deref_mut.ensures.value) (stop_may c.self.invariant.shows)
 
 pub write-requires : goal.write-requires
 write-requires c = record { room = room_for c.self.inside 1 0 c.self.invariant (rw (← c.self.view_is) at c.requires.room) (omega arith) }
