@@ -34,12 +34,12 @@ at_part : (o : Option Part) (part : Part) (P : Part → Type 0) → o ≡ Some p
 at_part o part P is holds = subst (λ (q : Option Part). IsSomeAnd q P) is holds
 
 -- a state that was made of what a plan tells of a scenario shows the scenario at its opening
-pub opened : (plan : Plan) (n : ℕ) (row : Row) (grace : ℕ) (owned : OwnedPart) (given : RatesPart) (new : RatesView) →
+pub opened : (plan : Plan) (n : ℕ) (row : Row) (grace : ℕ) (owned : OwnedPart) (given : RatesPart) (new : RatesView) → rates.ShowsOpening given new →
     IsSomeAnd (slice_get plan.parts n) (λ part. row ≡ row_of part) → IsSomeAnd (slice_get plan.parts n) (λ part. grace ≡ part.grace) →
     IsSomeAnd (slice_get plan.parts n) (λ part. executor_of owned ≡ part.executor) → IsTrue (is_distinct (owned_items (executor_of owned))) →
     owned ≡ plans.Rates given.pre given.max given.ticker → given.begin ≡ row.begin → given.end ≡ row.end → given.grace ≡ grace →
-    rates.ShowsOpening given new → ShowsOpening plan n (Rates new)
-opened plan n row grace owned given new row_is grace_is owned_is distinct own begin end given_grace opens part controls at =
+    ShowsOpening plan n (Rates new)
+opened plan n row grace owned given new opens row_is grace_is owned_is distinct own begin end given_grace part controls at =
     let r : row ≡ row_of part = at_part (slice_get plan.parts n) part (λ part. row ≡ row_of part) at row_is in
     let g : grace ≡ part.grace = at_part (slice_get plan.parts n) part (λ part. grace ≡ part.grace) at grace_is in
     let e : executor_of owned ≡ part.executor = at_part (slice_get plan.parts n) part (λ part. executor_of owned ≡ part.executor) at owned_is in
