@@ -1,5 +1,5 @@
 -- What a state of one executor shows.
-use Rattle.std.proofs.Common.{◌≡◌, ◌∙◌, ℕ, Option, Some, IsTrue, ap, refl, slice_get, subst, sym}
+use Rattle.std.proofs.Common.{◌≡◌, ◌∙◌, ℕ, Bool, Option, Some, IsTrue, ap, refl, slice_get, subst, sym}
 use Rattle.std.specs.Prelude.{IsSomeAnd}
 use Rattle.ld_base.specs.declared.act.Act.{Act}
 use Rattle.ld_machine.specs.Plan.{Executor, Part, Plan, owned_items}
@@ -16,13 +16,18 @@ use Rattle.ld_rates.specs.RatesView.{RatesView}
 use Rattle.ld_rates.specs.Shows as rates
 use Rattle.ld_rates.specs.declared.rates_part.RatesPart.{RatesPart}
 use Rattle.ld_rates.proofs.TellLemmas.{told_applies}
-use Rattle.ld_executor.specs.Shows.{MayTell, Shows, ShowsOpening}
+use Rattle.ld_executor.specs.Shows.{MayTell, Shows, ShowsOpening, closed_of}
 use Rattle.ld_executor.specs.declared.executor_state.ExecutorState.{ExecutorState}
 use Rattle.ld_executor.specs.declared.executor_state.ExecutorState.TheVariants.{Rates}
 
 -- a scenario at an arrival rate
 pub at_rate : (state : ExecutorState) (rate : RatesView) (s : Scenario) → state ≡ Rates rate → Shows state s → rates.Shows rate s
 at_rate state rate s is shown = subst (λ (e : ExecutorState). Shows e s) is shown
+
+-- it is closed where its executor's state, which shows the same scenarios, is
+pub closed_at_rate : (state : ExecutorState) (rate : RatesView) (closed : Bool) → ((s : Scenario) → rates.Shows rate s → closed ≡ s.share.closed) → state ≡ Rates rate →
+    closed ≡ rate.closed → closed ≡ closed_of state
+closed_at_rate state rate closed shown is kept = kept ∙ sym (ap closed_of is)
 
 -- what a state may be told, its executor's state may be
 pub may_told : (state : ExecutorState) (rate : RatesView) (act : Act) → state ≡ Rates rate → MayTell state act → MayApply rate act
