@@ -24,9 +24,10 @@ use Rattle.ld_executor.specs.declared.executor_state.ExecutorState.TheVariants.{
 pub at_rate : (state : ExecutorState) (rate : RatesView) (s : Scenario) → state ≡ Rates rate → Shows state s → rates.Shows rate s
 at_rate state rate s is shown = subst (λ (e : ExecutorState). Shows e s) is shown
 
--- it is closed where its executor's state is
-pub closed_at_rate : (state : ExecutorState) (rate : RatesView) (closed : Bool) → state ≡ Rates rate → closed ≡ rate.closed → closed ≡ closed_of state
-closed_at_rate state rate closed is kept = kept ∙ sym (ap closed_of is)
+-- it is closed where its executor's state, which shows the same scenarios, is
+pub closed_at_rate : (state : ExecutorState) (rate : RatesView) (closed : Bool) → ((s : Scenario) → rates.Shows rate s → closed ≡ s.share.closed) → state ≡ Rates rate →
+    closed ≡ rate.closed → closed ≡ closed_of state
+closed_at_rate state rate closed shown is kept = kept ∙ sym (ap closed_of is)
 
 -- what a state may be told, its executor's state may be
 pub may_told : (state : ExecutorState) (rate : RatesView) (act : Act) → state ≡ Rates rate → MayTell state act → MayApply rate act
