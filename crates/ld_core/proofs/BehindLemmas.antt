@@ -219,7 +219,7 @@ module _ {plan : Plan} {pool : PoolView} {kept : List ExecutorState} {stopped : 
       let samples = acted_samples plan state thread t act in
       record {
         count = count_behind act;
-        scenarios = states_behind n k new act of_n at follows may may;
+        scenarios = states_behind n k new act of_n at follows may;
         well = well;
         made = subst (λ (m : ℕ). m ≤ plan.limit) (sym made_is) made;
         limit = shows.limit;

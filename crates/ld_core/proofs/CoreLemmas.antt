@@ -293,13 +293,13 @@ out_here c is thread stint n user scenario_is user_is out =
     (subst (λ (k : ℕ). Finds (state_behind c) stint.scenario k (Busy thread stint.item stint.until)) (sym user_is) (out_found c is thread stint out))
 
 -- the scenario of a stint that is out may be told of its Return
-pub return_told : (c : Inside) (is : IsCore c) (n user thread item until : ℕ) (outcome : Outcome) (tally : TallyView) →
-    Finds (state_behind c) n user (Busy thread item until) → MayBeToldOf (core_view c) n (acts.Return n user item outcome tally)
-return_told c is n user thread item until outcome tally f =
-    let s = scenario_there is.shows n (found_inside c is n user (Busy thread item until) f) in
+pub return_told : (c : Inside) (is : IsCore c) (n user item thread played until : ℕ) (outcome : Outcome) (tally : TallyView) → item ≡ played →
+    Finds (state_behind c) n user (Busy thread played until) → MayBeToldOf (core_view c) n (acts.Return n user item outcome tally)
+return_told c is n user item thread played until outcome tally same f =
+    let s = scenario_there is.shows n (found_inside c is n user (Busy thread played until) f) in
     let share_is : f.share ≡ s.0.share = some_same (sym f.stands ∙ (part_there is.shows n s.0 s.1).1) in
     of_some (slice_get (scenarios c.plan.plan (state_behind c)) n) s.0 (λ x. IsPlayerOf x user item) s.1
-    (f.h, subst (λ (share : Share). Contains share.held f.h) share_is (Contains-from_In f.h f.at), f.number, (thread, (until, f.is)))
+    (f.h, subst (λ (share : Share). Contains share.held f.h) share_is (Contains-from_In f.h f.at), f.number, (thread, until, f.is ∙ ap (λ (i : ℕ). Busy thread i until) (sym same)))
   where
     some_same : {A : Type 0} {x y : A} → Some x ≡ Some y → x ≡ y
     some_same e = cc

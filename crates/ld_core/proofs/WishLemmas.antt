@@ -85,13 +85,13 @@ module _ (core : CoreView) (t n : ℕ) where
   pub start_first : (user item until due : ℕ) → Comes (Start user item until due) → IsFirstStart core t n user item until
   start_first user item until due told =
       let m = start_wished (has_arrivals told.1.s.part.executor) n user item until due in
-      (has_arrivals told.1.s.part.executor, (due, told.1.says m (alone m)))
+      (has_arrivals told.1.s.part.executor, due, told.1.says m (alone m))
 
   pub drop_first : (item due : ℕ) → Comes (Drop item due) → IsFirstDrop core t n item
   drop_first item due told =
       let until = hard_moment told.1.s.part in
       let m = drop_wished (has_arrivals told.1.s.part.executor) n item until due in
-      (has_arrivals told.1.s.part.executor, (until, (due, told.1.says m (alone m))))
+      (has_arrivals told.1.s.part.executor, until, due, told.1.says m (alone m))
 
   pub late_first : (item due : ℕ) → Comes (Late item due) → (until : ℕ) × IsFirstAnswer core t n item until CountLate
   late_first item due told =
@@ -134,4 +134,4 @@ module _ (core : CoreView) (t n : ℕ) where
   drop_more_first item until due slot told full free =
       let no_more : nat_lt (state_of core).made (plan_of core).limit ≡ false = grind (arith, common_steps) in
       let are : more_answers (users_of (plan_of core) (state_of core)) slot ≡ DropArrival ∷ [] = rw (no_more, free) refl in
-      (true, (until, (due, answers_first item until due slot (DropArrival ∷ []) told are DropArrival here)))
+      (true, until, due, answers_first item until due slot (DropArrival ∷ []) told are DropArrival here)

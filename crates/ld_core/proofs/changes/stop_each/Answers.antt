@@ -19,7 +19,7 @@ loop-scenario-preserved c =
     (kept_read c.loop-scenario.scenarios c.loop-scenario.scenario-index c.scenario-item.result
     (let below = c.loop-scenario-test.true in let long = c.loop-scenario.auto.scenarios in omega arith) c.scenario-item.is
     ∙ ap Some c.scenario-item.is)
-    c.apply.ensures.follows
+    c.apply.ensures
 
 pub returns : goal.returns
 returns c =

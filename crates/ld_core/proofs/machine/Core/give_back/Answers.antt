@@ -51,7 +51,7 @@ record-requires-clause-may c =
     let f = out_here c.self.inside c.self.invariant c.args.thread c.args.stint n user c.scenario-scenario.ensures c.user-user.ensures ((rw (← c.self.view_is) at c.requires.may).out) in
     tell_kept c.self.inside c.self.invariant n (Return n user c.item.result c.args.outcome c.args.tally) _
     (kept_read c.self.inside.scenarios.items n _ (part_kept c.self.inside c.self.invariant n (found_inside c.self.inside c.self.invariant n user _ f)) c.index_mut-state.ensures.value)
-    (return_told c.self.inside c.self.invariant n user c.args.thread c.args.stint.item c.args.stint.until c.args.outcome c.args.tally f)
+    (return_told c.self.inside c.self.invariant n user c.item.result c.args.thread c.args.stint.item c.args.stint.until c.args.outcome c.args.tally c.item.ensures f)
 
 pub record-requires-clause-room : goal.record-requires-clause-room
 record-requires-clause-room c =
@@ -81,4 +81,4 @@ invariant_of-self c =
     (with_pool _ pool_is
     (shows_returned c.self.invariant.shows (length c.self.inside.history.entries + 1) c.args.thread c.args.reading n user c.item.result c.args.outcome c.args.tally
     c.args.thread c.args.stint.item c.args.stint.until _ _ f (kept_read c.self.inside.scenarios.items n _ below c.index_mut-state.ensures.value) c.record.ensures.follows
-    (return_told c.self.inside c.self.invariant n user c.args.thread c.args.stint.item c.args.stint.until c.args.outcome c.args.tally f) few))
+    (return_told c.self.inside c.self.invariant n user c.item.result c.args.thread c.args.stint.item c.args.stint.until c.args.outcome c.args.tally c.item.ensures f) few))
