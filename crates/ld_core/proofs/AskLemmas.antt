@@ -1,21 +1,22 @@
 -- What an ask for an act gives.
-use Rattle.std.proofs.Common.{◌≡◌, ◌≢◌, ◌≤◌, ◌<◌, ◌+◌, ◌&&◌, nat_lt, ℕ, Bool, true, false, cond, List, [], ◌∷◌, ◌++◌, Option, None, Some, Contains, map, length, slice_get, arith, refl, ap, sym, subst, inl, inr, ◌∙◌}
-use Rattle.std.specs.Prelude.{find, is_some, option_map}
-use Rattle.std.specs.Option.{option_map_or}
+use Rattle.std.proofs.Common.{◌≡◌, ◌≢◌, ◌≤◌, ◌<◌, ◌+◌, ◌&&◌, nat_lt, ℕ, Bool, true, false, cond, List, [], ◌∷◌, ◌++◌, Option, None, Some, Contains, map, length, slice_get, arith, refl, ap, sym, subst, ◌∙◌}
 use Rattle.std.proofs.lemmas.Grind.{common_steps}
 use Rattle.std.proofs.lemmas.Option.{slice_get_within}
 use Rattle.ld_base.specs.declared.act.Act.{Act}
-use Rattle.ld_base.specs.declared.act.Act.TheVariants.{Take, Grow}
+use Rattle.ld_base.specs.Stint.{stint_of}
+use Rattle.ld_base.specs.declared.act.Act.TheVariants.{Take, Grow, Start, Drop}
 use Rattle.ld_base.specs.declared.ask.Ask.TheVariants as asks
 use Rattle.ld_base.specs.declared.entry.Entry.{Entry}
 use Rattle.ld_base.specs.declared.reply.Reply.{Reply}
-use Rattle.ld_base.specs.declared.reply.Reply.TheVariants.{Full, Wait}
+use Rattle.ld_base.specs.declared.reply.Reply.TheVariants.{Dropped, Full, Run, Wait}
 use Rattle.ld_base.specs.declared.reply.Room.TheVariants.{Entries, Samples}
 use Rattle.ld_base.specs.declared.reply.Room.{Room}
-use Rattle.ld_machine.specs.Plan.{Arrival, ArrivalRate, SharedIterations, PerVuIterations, ConstantVus, RampingVus, ExternallyControlled, Executor, Plan}
-use Rattle.ld_machine.specs.State.{HeldUser, State, all_closed, busy_count, free_users, idle_users, held_count}
-use Rattle.ld_machine.specs.Scenario.{Scenario, due_arrival, executor_arrivals, first_of, has_ended, is_due, is_open_item, least_open_arrival, least_open_item, may_hold_more, runs, where_holds}
-use Rattle.ld_machine.specs.Moves.{Answer, CountLate, StartOn, GrowAndStart, TakeAndStart, DropArrival, Move, ReleaseUser, AnswerArrival, Users, answers, scenarios, users_of}
+use Rattle.ld_machine.specs.Plan.{Part, Plan}
+use Rattle.ld_machine.specs.State.{Share, State, all_closed, busy_count, free_users}
+use Rattle.ld_machine.specs.Scenario.{Scenario, may_hold_more}
+use Rattle.ld_machine.specs.ShareEffect.{share_after}
+use Rattle.ld_machine.specs.Told.{MayBeTold, executor_has_place, newcomer_of}
+use Rattle.ld_machine.specs.Moves.{Answer, StartOn, GrowAndStart, TakeAndStart, DropArrival, Move, AnswerArrival, StartIteration, DropIteration, Users, answers, moves_of, scenarios, users_of}
 use Rattle.ld_machine.specs.Acts.{acts_of, added_entries, made_busy, scenario_of}
 use Rattle.ld_machine.specs.Replies.{reply_to}
 use Rattle.ld_machine.specs.Room.{busy_room, entries_refusal, entries_with, or_else, room_refusal, samples_refusal, samples_with, script_room}
@@ -23,22 +24,22 @@ use Rattle.ld_machine.specs.Together.{NoneActs}
 use Rattle.ld_machine.specs.Wait.{wait_moment}
 use Rattle.ld_machine.specs.Effect.{after_entry, hold}
 use Rattle.ld_machine.specs.Step.{IsStep, act_results, answered, entries_of, move_result, performed}
-use Rattle.ld_machine.specs.Wishes.{has_arrivals}
+use Rattle.ld_machine.specs.Wishes.{drop_wished, start_wished}
 use Rattle.ld_machine.proofs.BusyLemmas.{busy_hold, busy_same}
 use Rattle.ld_machine.proofs.BusyRoomLemmas.{room_same}
 use Rattle.ld_machine.proofs.BusyStepLemmas.{number_of_act}
 use Rattle.ld_machine.proofs.FirstOfAllLemmas.{In-of, first_is, first_performed, none_waits}
 use Rattle.ld_machine.proofs.ItemLemmas.{stands_share}
-use Rattle.ld_machine.proofs.ListLemmas.{In, here, Contains-from_In, In-map, In-one, both_true}
+use Rattle.ld_machine.proofs.ListLemmas.{In, here, Contains-from_In, both_true}
 use Rattle.ld_machine.proofs.ScenarioListLemmas.{stands_with, controls_with}
 use Rattle.ld_machine.proofs.ShareEffectLemmas.{own_share}
-use Rattle.ld_machine.proofs.SourceLemmas.{Source, by_stop, by_release, by_take, by_arrival, by_start, by_drop, by_close, In-cond, on_answer, grow_answer, source_of}
-use Rattle.ld_rates.proofs.KeptLemmas.{item_of_least}
-use Rattle.ld_core.specs.Changes.{HasRoom, HasSampleRoom, IsIdleUser, IsNextItem, MayHoldMore, refusal_with}
+use Rattle.ld_machine.proofs.SourceLemmas.{Source, by_stop, by_release, by_take, by_arrival, by_start, by_drop, by_close, grow_answer, source_of}
+use Rattle.ld_machine.proofs.ToldLemmas.{first_told, grown_place, second_told, taken_for_place}
+use Rattle.ld_core.specs.Changes.{HasPlace, HasRoom, HasSampleRoom, MayBeToldOf, refusal_with}
 use Rattle.ld_core.specs.CoreView.{Adds, CoreView, IsAsked, next_entry, plan_of, state_of}
 use Rattle.ld_core.specs.Firsts.{IsFirst, IsFirstTakeFor}
 use Rattle.ld_core.proofs.HistoryLemmas.{entries_counted, state_added}
-use Rattle.ld_core.proofs.ShownLemmas.{of_some, some_there}
+use Rattle.ld_core.proofs.ShownLemmas.{of_some}
 
 nothing_more : (es : List Entry) → es ≡ es ++ []
 nothing_more es = grind (arith, common_steps)
@@ -111,15 +112,6 @@ room_at_all core room =
     let few : entries_with (state_of core) 2 1 ≤ (plan_of core).entry_limit = room in
     let enough : entries_with (state_of core) 1 0 ≤ (plan_of core).entry_limit = omega arith in
     enough
-
--- a scenario with an arrival has arrivals
-arrives : (e : Executor) (test : Arrival → Bool) (a : Arrival) → find test (executor_arrivals e) ≡ Some a → has_arrivals e ≡ true
-arrives (ArrivalRate pre most arrivals) test a is = refl
-arrives (SharedIterations users items) test a is = absurd (cc)
-arrives (PerVuIterations slots items) test a is = absurd (cc)
-arrives (ConstantVus slots) test a is = absurd (cc)
-arrives (RampingVus grace slots) test a is = absurd (cc)
-arrives (ExternallyControlled vus most slots) test a is = absurd (cc)
 
 module _ (core : CoreView) (thread t : ℕ) where
   abbrev state : State
@@ -199,12 +191,12 @@ module _ (core : CoreView) (thread t : ℕ) where
   record Acts (n : ℕ) (move : Move) : Type 0 where
     s : Scenario
     stands : slice_get (scenarios plan state) n ≡ Some s
-    source : Source users n s t move
+    at : Contains (moves_of users n s t) move
 
   acts_there : (move : Move) → IsFirst core t move → Acts (scenario_of move) move
   acts_there move first =
       let found = (first_is plan state t move (In-of first.first)).0 in
-      let of_n : Acts found.0 move = record { s = found.1.0; stands = found.1.1; source = source_of users found.0 found.1.0 t move (In-of found.1.2) } in
+      let of_n : Acts found.0 move = record { s = found.1.0; stands = found.1.1; at = found.1.2 } in
       subst (λ (n : ℕ). Acts n move) (sym (number_of_act plan state t found.0 move found.1)) of_n
 
   pub first_inside : (move : Move) → IsFirst core t move → scenario_of move < length plan.parts
@@ -215,102 +207,47 @@ module _ (core : CoreView) (thread t : ℕ) where
 
   -- ---- what may be done
 
-  from_release : (n : ℕ) (s : Scenario) (user : ℕ) (move : Move) → move ≡ ReleaseUser n user → Source users n s t move →
-      (h : HeldUser) × In h (idle_users s.share) × (h.user ≡ user)
-  from_release n s user move is (by_stop may) = absurd (cc)
-  from_release n s user move is (by_release h at may) = (h, at, cc)
-  from_release n s user move is (by_take user' slot at of may) = absurd (cc)
-  from_release n s user move is (by_arrival a answer due at) = absurd (cc)
-  from_release n s user move is (by_start h item at may) = absurd (cc)
-  from_release n s user move is (by_drop item may) = absurd (cc)
-  from_release n s user move is (by_close may) = absurd (cc)
+  -- a scenario may be told of its first act, where that brings no user
+  pub first_may : (move : Move) (act : Act) (rest : List Act) → IsFirst core t move → acts_of move ≡ act ∷ rest → newcomer_of act ≡ None →
+      MayBeToldOf core (scenario_of move) act
+  first_may move act rest first acts old =
+      let found = acts_there move first in
+      of_some (slice_get (scenarios plan state) (scenario_of move)) found.s (λ s. MayBeTold s act) found.stands
+      (first_told (scenario_of move) t users found.s move act rest found.at acts old)
 
-  idle_there : (n user : ℕ) (s : Scenario) → slice_get (scenarios plan state) n ≡ Some s → (h : HeldUser) × In h (idle_users s.share) × (h.user ≡ user) → IsIdleUser core n user
-  idle_there n user s stands found =
-      of_some (slice_get (scenarios plan state) n) s (λ (s : Scenario). (h : HeldUser) × Contains (idle_users s.share) h × (h.user ≡ user)) stands
-      (found.0, Contains-from_In found.0 found.1, found.2)
+  -- it has a place where a user is grown for an arrival, or taken for one
+  pub grown_there : (n due item until user slot : ℕ) → IsFirst core t (AnswerArrival n due item until (GrowAndStart user slot)) → HasPlace core n slot
+  grown_there n due item until user slot first =
+      let found = acts_there (AnswerArrival n due item until (GrowAndStart user slot)) first in
+      of_some (slice_get (scenarios plan state) n) found.s (λ s. executor_has_place s.part.executor s slot ≡ true) found.stands
+      (grown_place n t due item until user slot users found.s found.at)
 
-  -- who is released is idle
-  pub released_idle : (n user : ℕ) → IsFirst core t (ReleaseUser n user) → IsIdleUser core n user
-  released_idle n user first =
-      let acts = acts_there (ReleaseUser n user) first in
-      idle_there n user acts.s acts.stands (from_release n acts.s user (ReleaseUser n user) refl acts.source)
+  taken_there : (n due item until user slot : ℕ) → IsFirst core t (AnswerArrival n due item until (TakeAndStart user slot)) → HasPlace core n slot
+  taken_there n due item until user slot first =
+      let found = acts_there (AnswerArrival n due item until (TakeAndStart user slot)) first in
+      of_some (slice_get (scenarios plan state) n) found.s (λ s. executor_has_place s.part.executor s slot ≡ true) found.stands
+      (taken_for_place n t due item until user slot users found.s found.at)
 
+  -- what a due arrival is answered
   from_arrival : (n : ℕ) (s : Scenario) (due item until : ℕ) (answer : Answer) (move : Move) → move ≡ AnswerArrival n due item until answer → Source users n s t move →
-      (a : Arrival) × (due_arrival s t ≡ Some a) × (a.item ≡ item) × In answer (answers s users t)
+      In answer (answers s users t)
   from_arrival n s due item until answer move is (by_stop may) = absurd (cc)
   from_arrival n s due item until answer move is (by_release h at may) = absurd (cc)
   from_arrival n s due item until answer move is (by_take user' slot at of may) = absurd (cc)
   from_arrival n s due item until answer move is (by_arrival a answer' now at) =
-      let same : answer' ≡ answer = cc in (a, now, cc, subst (λ (x : Answer). In x (answers s users t)) same at)
+      let same : answer' ≡ answer = cc in subst (λ (x : Answer). In x (answers s users t)) same at
   from_arrival n s due item until answer move is (by_start h item' at may) = absurd (cc)
   from_arrival n s due item until answer move is (by_drop item' may) = absurd (cc)
   from_arrival n s due item until answer move is (by_close may) = absurd (cc)
 
-  due_of : (s : Scenario) (running : Bool) (least : Option Arrival) (a : Arrival) →
-      find (is_due s t) (option_map_or (λ x. x ∷ []) (where_holds running least) []) ≡ Some a → least ≡ Some a
-  due_of s false least a h = absurd (cc)
-  due_of s true None a h = absurd (cc)
-  due_of s true (Some x) a h =
-      let P : Bool → Type 0 = λ b. cond b (Some x) None ≡ Some a → Some x ≡ Some a in
-      let from : P (is_due s t x) = elim (is_due s t x) as P [ true ↦ λ e. e | false ↦ λ e. absurd (cc) ] in
-      from h
-
-  -- the arrival that is answered is the next item
-  pub answered_next : (n due item until : ℕ) (answer : Answer) → IsFirst core t (AnswerArrival n due item until answer) → IsNextItem core n item
-  answered_next n due item until answer first =
-      let move = AnswerArrival n due item until answer in
-      let acts = acts_there move first in
-      let s : Scenario = acts.s in
-      let found = from_arrival n s due item until answer move refl acts.source in
-      let least = due_of s (runs s) (least_open_arrival s) found.0 found.1 in
-      let its = arrives s.part.executor (λ (a : Arrival). is_open_item s a.item) found.0 least in
-      let next : least_open_item s ≡ Some item = item_of_least s its ∙ ap (λ (o : Option Arrival). option_map (λ (a : Arrival). a.item) o) least ∙ ap (λ (k : ℕ). Some k) found.2 in
-      of_some (slice_get (scenarios plan state) n) s (λ (s : Scenario). least_open_item s ≡ Some item) acts.stands next
-
-  answer_in : (n due item until : ℕ) (answer : Answer) → IsFirst core t (AnswerArrival n due item until answer) →
-      (s : Scenario) × (slice_get (scenarios plan state) n ≡ Some s) × In answer (answers s users t)
-  answer_in n due item until answer first =
-      let acts = acts_there (AnswerArrival n due item until answer) first in
-      (acts.s, acts.stands, (from_arrival n acts.s due item until answer (AnswerArrival n due item until answer) refl acts.source).3)
-
-  -- it starts on an idle user
-  pub started_idle : (n due item until user : ℕ) → IsFirst core t (AnswerArrival n due item until (StartOn user)) → IsIdleUser core n user
-  started_idle n due item until user first =
-      let found = answer_in n due item until (StartOn user) first in
-      idle_there n user found.0 found.1 (on_answer users n found.0 t user found.2)
-
-  more_there : (n : ℕ) (s : Scenario) → slice_get (scenarios plan state) n ≡ Some s → may_hold_more s ≡ true → MayHoldMore core n
-  more_there n s stands may = of_some (slice_get (scenarios plan state) n) s (λ (s : Scenario). may_hold_more s ≡ true) stands may
-
-  -- or on one more, where that may be had
-  pub grown_more : (n due item until user slot : ℕ) → IsFirst core t (AnswerArrival n due item until (GrowAndStart user slot)) → MayHoldMore core n
-  grown_more n due item until user slot first =
-      let there = answer_in n due item until (GrowAndStart user slot) first in
-      let found = grow_answer users n there.0 t user slot there.2 in
-      more_there n there.0 there.1 (both_true (may_hold_more there.0) (nat_lt state.made plan.limit) found.1).0
-
+  -- a user is grown where one more may be made
   pub grown_below : (n due item until user slot : ℕ) → IsFirst core t (AnswerArrival n due item until (GrowAndStart user slot)) → state.made < plan.limit
   grown_below n due item until user slot first =
-      let there = answer_in n due item until (GrowAndStart user slot) first in
-      let found = grow_answer users n there.0 t user slot there.2 in
-      let below : nat_lt state.made plan.limit ≡ true = (both_true (may_hold_more there.0) (nat_lt state.made plan.limit) found.1).1 in
+      let move = AnswerArrival n due item until (GrowAndStart user slot) in
+      let found = acts_there move first in
+      let answer = from_arrival n found.s due item until (GrowAndStart user slot) move refl (source_of users n found.s t move (In-of found.at)) in
+      let below : nat_lt state.made plan.limit ≡ true = (both_true (may_hold_more found.s) (nat_lt state.made plan.limit) (grow_answer users n found.s t user slot answer).1).1 in
       grind (arith, common_steps)
-
-  taken_more : (s : Scenario) (user slot : ℕ) → In (TakeAndStart user slot) (answers s users t) → may_hold_more s ≡ true
-  taken_more s user slot h = elim (In-cond (has_ended s t) (TakeAndStart user slot) (CountLate ∷ []) _ h) [
-    | inl at ↦ let same = In-one (TakeAndStart user slot) CountLate at.1 in absurd (cc)
-    | inr at ↦ elim (In-cond (is_some (first_of (idle_users s.share))) (TakeAndStart user slot) (map (λ (u : HeldUser). StartOn u.user) (idle_users s.share)) _ at.1) [
-      | inl on ↦ let found = In-map (λ (u : HeldUser). StartOn u.user) (TakeAndStart user slot) (idle_users s.share) on.1 in absurd (cc)
-      | inr no_idle ↦ elim (In-cond (may_hold_more s && nat_lt users.made users.limit) (TakeAndStart user slot) (GrowAndStart (users.made + 1) (held_count s.share) ∷ []) _ no_idle.1) [
-        | inl grown ↦ let same = In-one (TakeAndStart user slot) (GrowAndStart (users.made + 1) (held_count s.share)) grown.1 in absurd (cc)
-        | inr no_grow ↦ elim (In-cond (may_hold_more s && is_some (first_of users.free)) (TakeAndStart user slot) (map (λ user. TakeAndStart user (held_count s.share)) users.free) (DropArrival ∷ []) no_grow.1) [
-          | inl taken ↦ (both_true (may_hold_more s) (is_some (first_of users.free)) taken.0).0
-          | inr dropped ↦ let same = In-one (TakeAndStart user slot) DropArrival dropped.1 in absurd (cc)
-        ]
-      ]
-    ]
-  ]
 
   some_user : (free : List ℕ) → free ≢ [] → (user : ℕ) × Contains free user
   some_user [] some = absurd (some refl)
@@ -322,16 +259,10 @@ module _ (core : CoreView) (thread t : ℕ) where
       let found = some_user (free_users state) first.some in
       (found.0, first.each found.0 found.1)
 
-  pub taken_for_more : (n item until slot : ℕ) → IsFirstTakeFor core t n item until slot → MayHoldMore core n
-  taken_for_more n item until slot first =
+  pub taken_for_there : (n item until slot : ℕ) → IsFirstTakeFor core t n item until slot → HasPlace core n slot
+  taken_for_there n item until slot first =
       let one = one_of_each n item until slot first in
-      let there = answer_in n first.due item until (TakeAndStart one.0 slot) one.1 in
-      more_there n there.0 there.1 (taken_more there.0 one.0 slot there.2)
-
-  pub taken_for_next : (n item until slot : ℕ) → IsFirstTakeFor core t n item until slot → IsNextItem core n item
-  taken_for_next n item until slot first =
-      let one = one_of_each n item until slot first in
-      answered_next n first.due item until (TakeAndStart one.0 slot) one.1
+      taken_there n first.due item until one.0 slot one.1
 
   -- the same of an act with each free user
   pub refused_with : (move : ℕ → Move) (reply : Reply) → free_users state ≢ [] → ((user : ℕ) → Contains (free_users state) user → IsFirst core t (move user)) →
@@ -344,9 +275,7 @@ module _ (core : CoreView) (thread t : ℕ) where
   -- ---- between the acts of one step
 
   -- scenario n holds a user more behind the act, and nothing else changed
-  pub record Holds (mid : CoreView) (n : ℕ) : Type 0 where
-    pub user : ℕ
-    pub slot : ℕ
+  pub record Holds (mid : CoreView) (n user slot : ℕ) : Type 0 where
     pub s : Scenario
     pub before : slice_get (scenarios plan state) n ≡ Some s
     pub stands : slice_get (scenarios (plan_of mid) (state_of mid)) n ≡ Some (record s { share = hold user slot s.share })
@@ -358,15 +287,13 @@ module _ (core : CoreView) (thread t : ℕ) where
 
   held_there : (mid : CoreView) (n user slot : ℕ) (s : Scenario) (after : State) → slice_get (scenarios plan state) n ≡ Some s → plan_of mid ≡ plan → state_of mid ≡ after →
       slice_get after.shares n ≡ Some (hold user slot s.share) → after.controls ≡ state.controls → after.entries ≡ state.entries + 1 → after.samples ≡ state.samples →
-      busy_count after ≡ busy_count state → busy_room plan after ≡ busy_room plan state → Holds mid n
+      busy_count after ≡ busy_count state → busy_room plan after ≡ busy_room plan state → Holds mid n user slot
   held_there mid n user slot s after stands plan_is after_is share_at controls entries samples busy space =
       let there = stands_share state.controls plan.parts state.shares n s stands in
       let standing : slice_get (scenarios plan after) n ≡ Some (record s { share = hold user slot s.share }) =
       stands_with after.controls plan.parts after.shares n s.part (hold user slot s.share) there.0 share_at
       ∙ ap (λ c. Some (record { part = s.part; share = hold user slot s.share; controls = c })) (controls ∙ sym (controls_with state.controls plan.parts state.shares n s stands)) in
       record {
-        user = user;
-        slot = slot;
         s = s;
         before = stands;
         stands = subst (λ (p : Plan). slice_get (scenarios p (state_of mid)) n ≡ Some (record s { share = hold user slot s.share })) (sym plan_is)
@@ -379,7 +306,7 @@ module _ (core : CoreView) (thread t : ℕ) where
         same_plan = plan_is;
       }
 
-  pub holds_taken : (mid : CoreView) (n user slot : ℕ) (move : Move) → IsFirst core t move → scenario_of move ≡ n → Adds core mid thread t (Take n user slot) → Holds mid n
+  pub holds_taken : (mid : CoreView) (n user slot : ℕ) (move : Move) → IsFirst core t move → scenario_of move ≡ n → Adds core mid thread t (Take n user slot) → Holds mid n user slot
   holds_taken mid n user slot move first of_n adds =
       let acts : Acts n move = subst (λ (k : ℕ). Acts k move) of_n (acts_there move first) in
       let there = stands_share state.controls plan.parts state.shares n acts.s acts.stands in
@@ -387,7 +314,7 @@ module _ (core : CoreView) (thread t : ℕ) where
       (own_share plan state thread t (Take n user slot) n acts.s.part acts.s.share refl there.0 there.1) refl refl refl
       (busy_same state n (hold user slot) (busy_hold user slot)) (room_same plan state n (hold user slot) (busy_hold user slot))
 
-  pub holds_grown : (mid : CoreView) (n user slot : ℕ) (move : Move) → IsFirst core t move → scenario_of move ≡ n → Adds core mid thread t (Grow n user slot) → Holds mid n
+  pub holds_grown : (mid : CoreView) (n user slot : ℕ) (move : Move) → IsFirst core t move → scenario_of move ≡ n → Adds core mid thread t (Grow n user slot) → Holds mid n user slot
   holds_grown mid n user slot move first of_n adds =
       let acts : Acts n move = subst (λ (k : ℕ). Acts k move) of_n (acts_there move first) in
       let there = stands_share state.controls plan.parts state.shares n acts.s acts.stands in
@@ -395,15 +322,23 @@ module _ (core : CoreView) (thread t : ℕ) where
       (own_share plan state thread t (Grow n user slot) n acts.s.part acts.s.share refl there.0 there.1) refl refl refl
       (busy_same state n (hold user slot) (busy_hold user slot)) (room_same plan state n (hold user slot) (busy_hold user slot))
 
-  pub next_still : (mid : CoreView) (n : ℕ) → Holds mid n → (item : ℕ) → IsNextItem core n item → IsNextItem mid n item
-  next_still mid n holds item next =
-      let found = some_there (slice_get (scenarios plan state) n) (λ (s : Scenario). least_open_item s ≡ Some item) next in
-      let same : found.0 ≡ holds.s = let both : Some found.0 ≡ Some holds.s = sym found.1 ∙ holds.before in cc in
-      let here_next : least_open_item holds.s ≡ Some item = subst (λ (s : Scenario). least_open_item s ≡ Some item) same found.2 in
-      of_some (slice_get (scenarios (plan_of mid) (state_of mid)) n) (record holds.s { share = hold holds.user holds.slot holds.s.share }) (λ (s : Scenario). least_open_item s ≡ Some item) holds.stands here_next
+  -- the scenario may be told of the second act of a step behind the first
+  pub second_may : (mid : CoreView) (n user slot : ℕ) (move : Move) (act next : Act) → IsFirst core t move → scenario_of move ≡ n → acts_of move ≡ act ∷ next ∷ [] →
+      ((part : Part) (share : Share) → share_after part thread t act share ≡ hold user slot share) → Holds mid n user slot → MayBeToldOf mid n next
+  second_may mid n user slot move act next first of_n acts holds_it holds =
+      let found : Acts n move = subst (λ (k : ℕ). Acts k move) of_n (acts_there move first) in
+      let same : found.s ≡ holds.s = some_same (sym found.stands ∙ holds.before) in
+      let told = second_told n t thread t users found.s move act next found.at acts in
+      let told_here : MayBeTold (record holds.s { share = share_after holds.s.part thread t act holds.s.share }) next =
+      subst (λ (s : Scenario). MayBeTold (record s { share = share_after s.part thread t act s.share }) next) same told in
+      of_some (slice_get (scenarios (plan_of mid) (state_of mid)) n) (record holds.s { share = hold user slot holds.s.share }) (λ s. MayBeTold s next) holds.stands
+      (subst (λ (share : Share). MayBeTold (record holds.s { share = share }) next) (holds_it holds.s.part holds.s.share) told_here)
+    where
+      some_same : {A : Type 0} {x y : A} → Some x ≡ Some y → x ≡ y
+      some_same e = cc
 
-  pub room_still : (mid : CoreView) (n : ℕ) → Holds mid n → HasRoom core 2 1 → HasRoom mid 1 1
-  room_still mid n holds room =
+  pub room_still : (mid : CoreView) (n user slot : ℕ) → Holds mid n user slot → HasRoom core 2 1 → HasRoom mid 1 1
+  room_still mid n user slot holds room =
       let same = holds.busy in
       let most : (plan_of mid).entry_limit ≡ plan.entry_limit = ap (λ (p : Plan). p.entry_limit) holds.same_plan in
       let long = holds.entries in
@@ -411,8 +346,8 @@ module _ (core : CoreView) (thread t : ℕ) where
       let enough : entries_with (state_of mid) 1 1 ≤ (plan_of mid).entry_limit = omega arith in
       enough
 
-  pub samples_still : (mid : CoreView) (n : ℕ) → Holds mid n → HasSampleRoom core n → HasSampleRoom mid n
-  samples_still mid n holds room =
+  pub samples_still : (mid : CoreView) (n user slot : ℕ) → Holds mid n user slot → HasSampleRoom core n → HasSampleRoom mid n
+  samples_still mid n user slot holds room =
       let most : (plan_of mid).entry_limit ≡ plan.entry_limit = ap (λ (p : Plan). p.entry_limit) holds.same_plan in
       let script = ap (λ (p : Plan). script_room p n) holds.same_plan in
       let space = holds.space in
@@ -420,3 +355,41 @@ module _ (core : CoreView) (thread t : ℕ) where
       let few : samples_with plan state n ≤ plan.entry_limit = room in
       let enough : samples_with (plan_of mid) (state_of mid) n ≤ (plan_of mid).entry_limit = omega arith in
       enough
+
+  -- ---- an item that starts, or is dropped, whether or not it is an arrival
+
+  pub start_inside : (arrivals : Bool) (n user item until due : ℕ) → IsFirst core t (start_wished arrivals n user item until due) → n < length plan.parts
+  start_inside true n user item until due first = first_inside (AnswerArrival n due item until (StartOn user)) first
+  start_inside false n user item until due first = first_inside (StartIteration n user item until) first
+
+  pub start_refused : (arrivals : Bool) (n user item until due : ℕ) (reply : Reply) → IsFirst core t (start_wished arrivals n user item until due) →
+      Some reply ≡ refusal_with plan state n 1 1 → IsAsked core core thread asks.Act t reply
+  start_refused true n user item until due reply first refusal = refused_act (AnswerArrival n due item until (StartOn user)) reply first refusal
+  start_refused false n user item until due reply first refusal = refused_act (StartIteration n user item until) reply first refusal
+
+  pub start_may : (arrivals : Bool) (n user item until due : ℕ) → IsFirst core t (start_wished arrivals n user item until due) → MayBeToldOf core n (Start n user item until)
+  start_may true n user item until due first = first_may (AnswerArrival n due item until (StartOn user)) (Start n user item until) [] first refl refl
+  start_may false n user item until due first = first_may (StartIteration n user item until) (Start n user item until) [] first refl refl
+
+  pub start_performed : (arrivals : Bool) (n user item until due : ℕ) (new : CoreView) → IsFirst core t (start_wished arrivals n user item until due) →
+      None ≡ refusal_with plan state n 1 1 → Adds core new thread t (Start n user item until) → IsAsked core new thread asks.Act t (Run (stint_of n user item until))
+  start_performed true n user item until due new first refusal adds =
+      performed_act (AnswerArrival n due item until (StartOn user)) (Start n user item until) new first refl refusal adds
+  start_performed false n user item until due new first refusal adds =
+      performed_act (StartIteration n user item until) (Start n user item until) new first refl refusal adds
+
+  pub drop_refused : (arrivals : Bool) (n item until due : ℕ) (reply : Reply) → IsFirst core t (drop_wished arrivals n item until due) →
+      Some reply ≡ refusal_with plan state n 1 0 → IsAsked core core thread asks.Act t reply
+  drop_refused true n item until due reply first refusal = refused_act (AnswerArrival n due item until DropArrival) reply first refusal
+  drop_refused false n item until due reply first refusal = refused_act (DropIteration n item) reply first refusal
+
+  pub drop_may : (arrivals : Bool) (n item until due : ℕ) → IsFirst core t (drop_wished arrivals n item until due) → MayBeToldOf core n (Drop n item)
+  drop_may true n item until due first = first_may (AnswerArrival n due item until DropArrival) (Drop n item) [] first refl refl
+  drop_may false n item until due first = first_may (DropIteration n item) (Drop n item) [] first refl refl
+
+  pub drop_performed : (arrivals : Bool) (n item until due : ℕ) (new : CoreView) → IsFirst core t (drop_wished arrivals n item until due) →
+      None ≡ refusal_with plan state n 1 0 → Adds core new thread t (Drop n item) → IsAsked core new thread asks.Act t (Dropped n item)
+  drop_performed true n item until due new first refusal adds =
+      performed_act (AnswerArrival n due item until DropArrival) (Drop n item) new first refl refusal adds
+  drop_performed false n item until due new first refusal adds =
+      performed_act (DropIteration n item) (Drop n item) new first refl refusal adds

@@ -1,5 +1,6 @@
 -- The parts of a core show the state behind an entry.
 use Rattle.std.proofs.Common.{◌≡◌, ◌≢◌, ◌<◌, ◌≤◌, ◌+◌, ◌-◌, ◌==◌, ℕ, Bool, true, false, cond, List, [], ◌∷◌, ◌++◌, Option, None, Some, map, length, set, slice_get, refl, sym, ap, ap₂, ◌∙◌, subst, arith}
+use Rattle.std.specs.Prelude.{IsSomeAnd}
 use Rattle.std.specs.List.{range_with_len}
 use Rattle.std.specs.Option.{option_map_or}
 use Rattle.std.proofs.lemmas.Grind.{common_steps}
@@ -22,6 +23,7 @@ use Rattle.ld_machine.specs.Scenario.{Scenario}
 use Rattle.ld_machine.specs.ShareEffect.{scenario_of_act, share_after}
 use Rattle.ld_machine.specs.State.{Idle, Busy, Halted, HeldUser, Share, State, busy_count, is_held, times_held}
 use Rattle.ld_machine.specs.Together.{WellHeld}
+use Rattle.ld_machine.specs.Told.{MayBeTold}
 use Rattle.ld_machine.proofs.BusyLemmas.{busy_end, busy_hold, close_busy, grow_busy, release_busy, return_busy, same_number, start_busy, stop_busy, take_busy, busy_command}
 use Rattle.ld_machine.proofs.BusyRoomLemmas.{release_room, return_room, room_command, room_end, room_same, start_room}
 use Rattle.ld_machine.proofs.DropLemmas.{grows, made_after}
@@ -38,13 +40,13 @@ use Rattle.ld_pool.specs.Users as pools
 use Rattle.ld_pool.specs.declared.user.User.{User}
 use Rattle.ld_pool.specs.declared.user.User.TheVariants as users
 use Rattle.ld_pool.proofs.UserLemmas.{count-with_user}
-use Rattle.ld_rates.specs.RatesView.{RatesView}
-use Rattle.ld_rates.specs.Shows as rates
+use Rattle.ld_executor.specs.declared.executor_state.ExecutorState.{ExecutorState}
+use Rattle.ld_executor.specs.Shows as executors
 use Rattle.ld_core.specs.Changes.{AllFollow}
 use Rattle.ld_core.specs.Shows.{AllShow, Shows, condition_user, user_held, user_of}
 use Rattle.ld_core.proofs.RangeLemmas.{changed_on_range, same_on_range}
 use Rattle.ld_core.proofs.StateLemmas.{act_entries, act_samples, acted_samples}
-use Rattle.ld_core.proofs.ShownLemmas.{Finds, busy_once, idle_once, part_there, set_itself, set_others, shown_there, there_below, user_found}
+use Rattle.ld_core.proofs.ShownLemmas.{Finds, busy_once, idle_once, part_there, set_itself, set_others, shown_there, some_of, there_below, user_found}
 
 -- ---- what acts of scenarios leave as it is
 
@@ -78,7 +80,7 @@ act_leaves plan state thread t n (acts.Close k) of_n = record { controls = refl;
 act_leaves plan state thread t n (acts.Control command) of_n = absurd (cc)
 
 -- the same pool by another word
-pub with_pool : {plan : Plan} {pool : PoolView} {kept : List RatesView} {stopped : Bool} {state : State} (other : PoolView) → other ≡ pool →
+pub with_pool : {plan : Plan} {pool : PoolView} {kept : List ExecutorState} {stopped : Bool} {state : State} (other : PoolView) → other ≡ pool →
     Shows plan pool kept stopped state → Shows plan other kept stopped state
 with_pool {plan} {pool} {kept} {stopped} {state} other is shows = subst (λ (p : PoolView). Shows plan p kept stopped state) (sym is) shows
 
@@ -88,7 +90,7 @@ with_pool {plan} {pool} {kept} {stopped} {state} other is shows = subst (λ (p :
 scenario_by : (s other : Scenario) (share : Share) → other.part ≡ s.part → other.share ≡ share → other.controls ≡ s.controls → record s { share = share } ≡ other
 scenario_by s other share part shares controls = rw (← part, ← shares, ← controls) refl
 
-module _ {plan : Plan} {pool : PoolView} {kept : List RatesView} {stopped : Bool} {state : State} (shows : Shows plan pool kept stopped state) (turn thread t : ℕ) where
+module _ {plan : Plan} {pool : PoolView} {kept : List ExecutorState} {stopped : Bool} {state : State} (shows : Shows plan pool kept stopped state) (turn thread t : ℕ) where
   abbrev entry_of : Act → Entry
   entry_of act = record { turn = turn; thread = thread; act = act; reading = t }
 
@@ -101,22 +103,27 @@ module _ {plan : Plan} {pool : PoolView} {kept : List RatesView} {stopped : Bool
   scenarios_behind : (act : Act) → length (scenarios plan (behind act)) ≡ length plan.parts
   scenarios_behind act = length-with (behind act).controls plan.parts (behind act).shares (count_behind act)
 
+  -- scenario n may be told of the act
+  abbrev pub Told : ℕ → Act → Type 0
+  Told n act = IsSomeAnd (slice_get (scenarios plan state) n) (λ s. MayBeTold s act)
+
   -- the scenario that an act is of is kept as the act leaves it, and the others as they were
-  pub rates_behind : (n : ℕ) (k new : RatesView) (act : Act) → scenario_of_act act ≡ Some n → slice_get kept n ≡ Some k → rates.Follows k new act t →
+  pub states_behind : (n : ℕ) (k new : ExecutorState) (act : Act) → scenario_of_act act ≡ Some n → slice_get kept n ≡ Some k → executors.Follows k new act t → Told n act →
       AllShow (set kept n new) (scenarios plan (behind act))
-  rates_behind n k new act of_n at follows =
+  states_behind n k new act of_n at follows may =
       let leaves = act_leaves plan state thread t n act of_n in
       let found = shown_there shows n k at in
       let s : Scenario = found.0 in
+      let told : MayBeTold s act = some_of (slice_get (scenarios plan state) n) s (λ (x : Scenario). MayBeTold x act) found.1 may in
       let there = part_there shows n s found.1 in
       let own = own_share plan state thread t act n s.part s.share of_n there.0 there.1 in
       let long = length-set kept n new in
       record {
-        count = long ∙ shows.rates.count ∙ length-with state.controls plan.parts state.shares shows.count ∙ sym (scenarios_behind act);
+        count = long ∙ shows.scenarios.count ∙ length-with state.controls plan.parts state.shares shows.count ∙ sym (scenarios_behind act);
         each = λ m kept_m other kept_at other_at.
             let stands = stands_share (behind act).controls plan.parts (behind act).shares m other other_at in
             let its = controls_with (behind act).controls plan.parts (behind act).shares m other other_at in
-            let P : Bool → Type 0 = λ b. (m == n) ≡ b → rates.Shows kept_m other in
+            let P : Bool → Type 0 = λ b. (m == n) ≡ b → executors.Shows kept_m other in
             let both : P (m == n) = elim (m == n) as P [
               | true ↦ λ e.
                   let same : m ≡ n = same_number m n e in
@@ -126,8 +133,8 @@ module _ {plan : Plan} {pool : PoolView} {kept : List RatesView} {stopped : Bool
                   let share_is : other.share ≡ share_after s.part thread t act s.share = some_same (sym share_at ∙ own) in
                   let controls_is : other.controls ≡ s.controls = its ∙ leaves.controls ∙ sym (controls_with state.controls plan.parts state.shares n s found.1) in
                   let kept_is : new ≡ kept_m = set_itself kept n new kept_m (subst (λ (i : ℕ). slice_get (set kept n new) i ≡ Some kept_m) same kept_at) in
-                  subst (λ (v : RatesView). rates.Shows v other) kept_is
-                  (subst (λ (x : Scenario). rates.Shows new x) (scenario_by s other _ part_is share_is controls_is) (follows s thread found.2))
+                  subst (λ (v : ExecutorState). executors.Shows v other) kept_is
+                  (subst (λ (x : Scenario). executors.Shows new x) (scenario_by s other _ part_is share_is controls_is) (follows s thread found.2 told))
               | false ↦ λ e.
                   let apart : m ≢ n = λ q. (let t : (m == n) ≡ true = rw q (number_itself n) in absurd (cc)) in
                   let kept_before : slice_get kept m ≡ Some kept_m = sym (set_others kept n m new apart) ∙ kept_at in
@@ -137,7 +144,7 @@ module _ {plan : Plan} {pool : PoolView} {kept : List RatesView} {stopped : Bool
                   let part_is : other.part ≡ before.part = some_same (sym stands.0 ∙ was_there.0) in
                   let share_is : other.share ≡ before.share = some_same (sym stands.1 ∙ other_share plan state thread t act n m of_n apart ∙ was_there.1) in
                   let controls_is : other.controls ≡ before.controls = its ∙ leaves.controls ∙ sym (controls_with state.controls plan.parts state.shares m before was.1) in
-                  subst (λ (x : Scenario). rates.Shows kept_m x) (scenario_by before other before.share part_is share_is controls_is) was.2
+                  subst (λ (x : Scenario). executors.Shows kept_m x) (scenario_by before other before.share part_is share_is controls_is) was.2
             ] in both refl;
       }
     where
@@ -145,11 +152,11 @@ module _ {plan : Plan} {pool : PoolView} {kept : List RatesView} {stopped : Bool
       some_same e = cc
 
   -- a stop reaches all
-  pub rates_stopped : (new : List RatesView) → AllFollow kept new (acts.Control commands.Stop) t → AllShow new (scenarios plan (behind (acts.Control commands.Stop)))
-  rates_stopped new follow =
+  pub states_stopped : (new : List ExecutorState) → AllFollow kept new (acts.Control commands.Stop) t → AllShow new (scenarios plan (behind (acts.Control commands.Stop)))
+  states_stopped new follow =
       let act = acts.Control commands.Stop in
       record {
-        count = follow.count ∙ shows.rates.count ∙ length-with state.controls plan.parts state.shares shows.count ∙ sym (scenarios_behind act);
+        count = follow.count ∙ shows.scenarios.count ∙ length-with state.controls plan.parts state.shares shows.count ∙ sym (scenarios_behind act);
         each = λ m new_m other new_at other_at.
             let stands = stands_share (behind act).controls plan.parts (behind act).shares m other other_at in
             let its = controls_with (behind act).controls plan.parts (behind act).shares m other other_at in
@@ -161,15 +168,15 @@ module _ {plan : Plan} {pool : PoolView} {kept : List RatesView} {stopped : Bool
             let part_is : other.part ≡ before.part = some_same (sym stands.0 ∙ was_there.0) in
             let share_is : other.share ≡ share_after before.part thread t act before.share = some_same (sym stands.1 ∙ own) in
             let controls_is : other.controls ≡ before.controls = its ∙ sym (controls_with state.controls plan.parts state.shares m before was.1) in
-            subst (λ (x : Scenario). rates.Shows new_m x) (scenario_by before other _ part_is share_is controls_is)
-            (follow.each m k.0 new_m k.1 new_at before thread was.2);
+            subst (λ (x : Scenario). executors.Shows new_m x) (scenario_by before other _ part_is share_is controls_is)
+            (follow.each m k.0 new_m k.1 new_at before thread was.2 tt);
       }
     where
       some_same : {A : Type 0} {x y : A} → Some x ≡ Some y → x ≡ y
       some_same e = cc
 
-      before_at : (m : ℕ) (new_m : RatesView) (new : List RatesView) → AllFollow kept new (acts.Control commands.Stop) t → slice_get new m ≡ Some new_m →
-          (k : RatesView) × (slice_get kept m ≡ Some k)
+      before_at : (m : ℕ) (new_m : ExecutorState) (new : List ExecutorState) → AllFollow kept new (acts.Control commands.Stop) t → slice_get new m ≡ Some new_m →
+          (k : ExecutorState) × (slice_get kept m ≡ Some k)
       before_at m new_m new follow at = there_below kept m (let within = slice_get_within new m new_m at in let long = follow.count in omega arith)
 
   -- ---- the users
@@ -201,18 +208,18 @@ module _ {plan : Plan} {pool : PoolView} {kept : List RatesView} {stopped : Bool
   with_users list = record pool { users = list }
 
   -- behind an act of a scenario, where the pool goes with it
-  shows_behind : (n : ℕ) (k new : RatesView) (act : Act) (list : List User) → scenario_of_act act ≡ Some n → slice_get kept n ≡ Some k → rates.Follows k new act t →
+  shows_behind : (n : ℕ) (k new : ExecutorState) (act : Act) (list : List User) → scenario_of_act act ≡ Some n → slice_get kept n ≡ Some k → executors.Follows k new act t → Told n act →
       WellHeld (behind act) → state.made + grows act ≤ plan.limit → list ≡ map (user_of (behind act)) (range_with_len 1 (state.made + grows act)) →
       pools.busy_count list ≡ busy_count (behind act) → state.entries + 1 + busy_count (behind act) ≤ plan.entry_limit →
       state.samples + act_samples act + busy_room plan (behind act) ≤ plan.entry_limit → Shows plan (with_users list) (set kept n new) stopped (behind act)
-  shows_behind n k new act list of_n at follows well made users busy room space =
+  shows_behind n k new act list of_n at follows may well made users busy room space =
       let leaves = act_leaves plan state thread t n act of_n in
       let made_is = made_after plan state turn thread t act in
       let entries = act_entries plan state thread t act in
       let samples = acted_samples plan state thread t act in
       record {
         count = count_behind act;
-        rates = rates_behind n k new act of_n at follows;
+        scenarios = states_behind n k new act of_n at follows may may;
         well = well;
         made = subst (λ (m : ℕ). m ≤ plan.limit) (sym made_is) made;
         limit = shows.limit;
@@ -245,48 +252,48 @@ module _ {plan : Plan} {pool : PoolView} {kept : List RatesView} {stopped : Bool
   no_more_made = let within = shows.made in omega arith
 
   -- an act that changes no user
-  shows_plain : (n : ℕ) (k new : RatesView) (act : Act) → scenario_of_act act ≡ Some n → gained act ≡ None → grows act ≡ 0 → act_samples act ≡ 0 →
-      slice_get kept n ≡ Some k → rates.Follows k new act t → ((other : ℕ) → holder_of (behind act) other ≡ holder_of state other) →
+  shows_plain : (n : ℕ) (k new : ExecutorState) (act : Act) → scenario_of_act act ≡ Some n → gained act ≡ None → grows act ≡ 0 → act_samples act ≡ 0 →
+      slice_get kept n ≡ Some k → executors.Follows k new act t → Told n act → ((other : ℕ) → holder_of (behind act) other ≡ holder_of state other) →
       busy_count (behind act) ≡ busy_count state → busy_room plan (behind act) ≡ busy_room plan state → entries_with state 1 0 ≤ plan.entry_limit →
       Shows plan pool (set kept n new) stopped (behind act)
-  shows_plain n k new act of_n none same_made no_samples at follows holders busy space room =
+  shows_plain n k new act of_n none same_made no_samples at follows may holders busy space room =
       let few : entries_with state 1 0 ≤ plan.entry_limit = room in
       let many : state.samples + busy_room plan state ≤ plan.entry_limit = shows.sample_room in
       let within = shows.made in
       let made : state.made ≡ state.made + grows act = omega arith in
-      shows_behind n k new act pool.users of_n at follows (well_plain act none) (omega arith)
+      shows_behind n k new act pool.users of_n at follows may (well_plain act none) (omega arith)
       (subst (λ (m : ℕ). pool.users ≡ map (user_of (behind act)) (range_with_len 1 m)) made (users_same (behind act) holders))
       (shows.busy ∙ sym busy) (omega arith) (omega arith)
 
-  pub shows_dropped : (n item : ℕ) (k new : RatesView) → slice_get kept n ≡ Some k → rates.Follows k new (acts.Drop n item) t → entries_with state 1 0 ≤ plan.entry_limit →
+  pub shows_dropped : (n item : ℕ) (k new : ExecutorState) → slice_get kept n ≡ Some k → executors.Follows k new (acts.Drop n item) t → Told n (acts.Drop n item) → entries_with state 1 0 ≤ plan.entry_limit →
       Shows plan pool (set kept n new) stopped (behind (acts.Drop n item))
-  shows_dropped n item k new at follows room =
-      shows_plain n k new (acts.Drop n item) refl refl refl refl at follows (holder_end plan n item state) (busy_end plan n item state) (room_end plan n item state) room
+  shows_dropped n item k new at follows may room =
+      shows_plain n k new (acts.Drop n item) refl refl refl refl at follows may (holder_end plan n item state) (busy_end plan n item state) (room_end plan n item state) room
 
-  pub shows_late : (n item : ℕ) (k new : RatesView) → slice_get kept n ≡ Some k → rates.Follows k new (acts.Late n item) t → entries_with state 1 0 ≤ plan.entry_limit →
+  pub shows_late : (n item : ℕ) (k new : ExecutorState) → slice_get kept n ≡ Some k → executors.Follows k new (acts.Late n item) t → Told n (acts.Late n item) → entries_with state 1 0 ≤ plan.entry_limit →
       Shows plan pool (set kept n new) stopped (behind (acts.Late n item))
-  shows_late n item k new at follows room =
-      shows_plain n k new (acts.Late n item) refl refl refl refl at follows (holder_end plan n item state) (busy_end plan n item state) (room_end plan n item state) room
+  shows_late n item k new at follows may room =
+      shows_plain n k new (acts.Late n item) refl refl refl refl at follows may (holder_end plan n item state) (busy_end plan n item state) (room_end plan n item state) room
 
-  pub shows_halted : (n : ℕ) (k new : RatesView) → slice_get kept n ≡ Some k → rates.Follows k new (acts.Stop n) t → entries_with state 1 0 ≤ plan.entry_limit →
+  pub shows_halted : (n : ℕ) (k new : ExecutorState) → slice_get kept n ≡ Some k → executors.Follows k new (acts.Stop n) t → Told n (acts.Stop n) → entries_with state 1 0 ≤ plan.entry_limit →
       Shows plan pool (set kept n new) stopped (behind (acts.Stop n))
-  shows_halted n k new at follows room =
-      shows_plain n k new (acts.Stop n) refl refl refl refl at follows (holder_stop state n) (stop_busy plan state thread t n)
+  shows_halted n k new at follows may room =
+      shows_plain n k new (acts.Stop n) refl refl refl refl at follows may (holder_stop state n) (stop_busy plan state thread t n)
       (room_same plan state n (λ share. record share { level = Halted }) (λ share. refl)) room
 
-  pub shows_closed : (n : ℕ) (k new : RatesView) → slice_get kept n ≡ Some k → rates.Follows k new (acts.Close n) t → entries_with state 1 0 ≤ plan.entry_limit →
+  pub shows_closed : (n : ℕ) (k new : ExecutorState) → slice_get kept n ≡ Some k → executors.Follows k new (acts.Close n) t → Told n (acts.Close n) → entries_with state 1 0 ≤ plan.entry_limit →
       Shows plan pool (set kept n new) stopped (behind (acts.Close n))
-  shows_closed n k new at follows room =
-      shows_plain n k new (acts.Close n) refl refl refl refl at follows (holder_close state n) (close_busy plan state thread t n)
+  shows_closed n k new at follows may room =
+      shows_plain n k new (acts.Close n) refl refl refl refl at follows may (holder_close state n) (close_busy plan state thread t n)
       (room_same plan state n (λ share. record share { closed = true }) (λ share. refl)) room
 
   abbrev put : ℕ → User → PoolView
   put user after = with_users (set pool.users (user - 1) after)
 
-  pub shows_taken : (n user slot : ℕ) (k new : RatesView) (share : Share) → slice_get kept n ≡ Some k → rates.Follows k new (acts.Take n user slot) t →
+  pub shows_taken : (n user slot : ℕ) (k new : ExecutorState) (share : Share) → slice_get kept n ≡ Some k → executors.Follows k new (acts.Take n user slot) t → Told n (acts.Take n user slot) →
       slice_get state.shares n ≡ Some share → entries_with state 1 0 ≤ plan.entry_limit → is_held state user ≡ false → 1 ≤ user → user ≤ state.made →
       pools.user_at pool.users user ≡ Some users.Free → Shows plan (put user (users.Idle n)) (set kept n new) stopped (behind (acts.Take n user slot))
-  shows_taken n user slot k new share at follows stands room nobody some made said =
+  shows_taken n user slot k new share at follows may stands room nobody some made said =
       let act = acts.Take n user slot in
       let few : entries_with state 1 0 ≤ plan.entry_limit = room in
       let many : state.samples + busy_room plan state ≤ plan.entry_limit = shows.sample_room in
@@ -294,7 +301,7 @@ module _ {plan : Plan} {pool : PoolView} {kept : List RatesView} {stopped : Bool
       let busy = take_busy plan state thread t n user slot in
       let space : busy_room plan (behind act) ≡ busy_room plan state = room_same plan state n (hold user slot) (busy_hold user slot) in
       let shown = shows.busy in
-      shows_behind n k new act (set pool.users (user - 1) (users.Idle n)) refl at follows
+      shows_behind n k new act (set pool.users (user - 1) (users.Idle n)) refl at follows may
       (well_gained act user refl some (none_held user state.shares nobody) (omega arith)) no_more_made
       (as_many (behind act) _ (users_changed (behind act) user (Some (n, record { user = user; slot = slot; condition = Idle })) some
       (λ other. holder_hold state n user slot other share stands nobody)))
@@ -305,10 +312,10 @@ module _ {plan : Plan} {pool : PoolView} {kept : List RatesView} {stopped : Bool
       let sum = sum_by-append (λ (u : User). cond (pools.is_busy u) 1 0) pool.users (users.Idle n ∷ []) in
       omega (arith, sum)
 
-  pub shows_grown : (n user slot : ℕ) (k new : RatesView) (share : Share) → slice_get kept n ≡ Some k → rates.Follows k new (acts.Grow n user slot) t →
+  pub shows_grown : (n user slot : ℕ) (k new : ExecutorState) (share : Share) → slice_get kept n ≡ Some k → executors.Follows k new (acts.Grow n user slot) t → Told n (acts.Grow n user slot) →
       slice_get state.shares n ≡ Some share → entries_with state 1 0 ≤ plan.entry_limit → user ≡ state.made + 1 → state.made < plan.limit →
       Shows plan (with_users (pool.users ++ users.Idle n ∷ [])) (set kept n new) stopped (behind (acts.Grow n user slot))
-  shows_grown n user slot k new share at follows stands room number below =
+  shows_grown n user slot k new share at follows may stands room number below =
       let act = acts.Grow n user slot in
       let few : entries_with state 1 0 ≤ plan.entry_limit = room in
       let many : state.samples + busy_room plan state ≤ plan.entry_limit = shows.sample_room in
@@ -324,7 +331,7 @@ module _ {plan : Plan} {pool : PoolView} {kept : List RatesView} {stopped : Bool
       let space : busy_room plan (behind act) ≡ busy_room plan state = room_same plan state n (hold user slot) (busy_hold user slot) in
       let counted = one_grown n in
       let shown = shows.busy in
-      shows_behind n k new act (pool.users ++ users.Idle n ∷ []) refl at follows (well_gained act user refl (omega arith) unmade (omega arith)) (omega arith)
+      shows_behind n k new act (pool.users ++ users.Idle n ∷ []) refl at follows may (well_gained act user refl (omega arith) unmade (omega arith)) (omega arith)
       (ap₂ (λ (l : List User) (u : User). l ++ u ∷ []) (shows.users ∙ same_on_range (user_of state) (user_of (behind act)) 1 state.made others) itself
       ∙ sym (map-range_with_len_more (user_of (behind act)) 1 state.made user (omega arith)))
       (omega arith) (omega arith) (omega arith)
@@ -332,9 +339,9 @@ module _ {plan : Plan} {pool : PoolView} {kept : List RatesView} {stopped : Bool
       below_apart : (i user : ℕ) → i < user → (i == user) ≡ false
       below_apart i user below = grind (arith, common_steps)
 
-  pub shows_released : (n user : ℕ) (k new : RatesView) (f : Finds state n user Idle) → slice_get kept n ≡ Some k → rates.Follows k new (acts.Release n user) t →
+  pub shows_released : (n user : ℕ) (k new : ExecutorState) (f : Finds state n user Idle) → slice_get kept n ≡ Some k → executors.Follows k new (acts.Release n user) t → Told n (acts.Release n user) →
       entries_with state 1 0 ≤ plan.entry_limit → Shows plan (put user users.Free) (set kept n new) stopped (behind (acts.Release n user))
-  shows_released n user k new f at follows room =
+  shows_released n user k new f at follows may room =
       let act = acts.Release n user in
       let few : entries_with state 1 0 ≤ plan.entry_limit = room in
       let many : state.samples + busy_room plan state ≤ plan.entry_limit = shows.sample_room in
@@ -343,14 +350,14 @@ module _ {plan : Plan} {pool : PoolView} {kept : List RatesView} {stopped : Bool
       let busy = release_busy plan state thread t n user f.share f.stands once in
       let space = release_room plan state thread t n user f.share f.stands once in
       let shown = shows.busy in
-      shows_behind n k new act (set pool.users (user - 1) users.Free) refl at follows (well_plain act refl) no_more_made
+      shows_behind n k new act (set pool.users (user - 1) users.Free) refl at follows may (well_plain act refl) no_more_made
       (as_many (behind act) _ (users_changed (behind act) user None f.some (λ other. holder_let_go state n shows.well user other f.h f.holder)))
       (omega arith) (omega arith) (omega arith)
 
-  pub shows_started : (n user item until : ℕ) (k new : RatesView) (f : Finds state n user Idle) → slice_get kept n ≡ Some k →
-      rates.Follows k new (acts.Start n user item until) t → entries_with state 1 1 ≤ plan.entry_limit → samples_with plan state n ≤ plan.entry_limit →
+  pub shows_started : (n user item until : ℕ) (k new : ExecutorState) (f : Finds state n user Idle) → slice_get kept n ≡ Some k →
+      executors.Follows k new (acts.Start n user item until) t → Told n (acts.Start n user item until) → entries_with state 1 1 ≤ plan.entry_limit → samples_with plan state n ≤ plan.entry_limit →
       Shows plan (put user (condition_user n (Busy thread item until))) (set kept n new) stopped (behind (acts.Start n user item until))
-  shows_started n user item until k new f at follows room enough =
+  shows_started n user item until k new f at follows may room enough =
       let act = acts.Start n user item until in
       let few : entries_with state 1 1 ≤ plan.entry_limit = room in
       let many : state.samples + busy_room plan state + script_room plan n ≤ plan.entry_limit = enough in
@@ -361,15 +368,15 @@ module _ {plan : Plan} {pool : PoolView} {kept : List RatesView} {stopped : Bool
       let space = start_room plan state thread t n user item until f.share f.stands once in
       let shown = shows.busy in
       let between : State = change_share state n (put_condition user (Busy thread item until)) in
-      shows_behind n k new act (set pool.users (user - 1) playing) refl at follows (well_plain act refl) no_more_made
+      shows_behind n k new act (set pool.users (user - 1) playing) refl at follows may (well_plain act refl) no_more_made
       (as_many (behind act) _ (users_changed (behind act) user (Some (n, record f.h { condition = Busy thread item until })) f.some
       (λ other. holder_end plan n item between other ∙ holder_put state n shows.well user other (Busy thread item until) f.h f.holder)))
       (omega arith) (omega arith) (omega arith)
 
-  pub shows_returned : (n user item : ℕ) (outcome : Outcome) (tally : TallyView) (by played until : ℕ) (k new : RatesView) (f : Finds state n user (Busy by played until)) →
-      slice_get kept n ≡ Some k → rates.Follows k new (acts.Return n user item outcome tally) t → length tally.samples ≤ script_room plan n →
+  pub shows_returned : (n user item : ℕ) (outcome : Outcome) (tally : TallyView) (by played until : ℕ) (k new : ExecutorState) (f : Finds state n user (Busy by played until)) →
+      slice_get kept n ≡ Some k → executors.Follows k new (acts.Return n user item outcome tally) t → Told n (acts.Return n user item outcome tally) → length tally.samples ≤ script_room plan n →
       Shows plan (put user (users.Idle n)) (set kept n new) stopped (behind (acts.Return n user item outcome tally))
-  shows_returned n user item outcome tally by played until k new f at follows fits =
+  shows_returned n user item outcome tally by played until k new f at follows may fits =
       let act = acts.Return n user item outcome tally in
       let few : state.entries + busy_count state ≤ plan.entry_limit = shows.room in
       let many : state.samples + busy_room plan state ≤ plan.entry_limit = shows.sample_room in
@@ -378,12 +385,12 @@ module _ {plan : Plan} {pool : PoolView} {kept : List RatesView} {stopped : Bool
       let busy = return_busy plan state thread t n user item outcome tally f.share f.stands once in
       let space = return_room plan state thread t n user item outcome tally f.share f.stands once in
       let shown = shows.busy in
-      shows_behind n k new act (set pool.users (user - 1) (users.Idle n)) refl at follows (well_plain act refl) no_more_made
+      shows_behind n k new act (set pool.users (user - 1) (users.Idle n)) refl at follows may (well_plain act refl) no_more_made
       (as_many (behind act) _ (users_changed (behind act) user (Some (n, record f.h { condition = Idle })) f.some
       (λ other. holder_put state n shows.well user other Idle f.h f.holder)))
       (omega arith) (omega arith) (omega arith)
 
-  pub shows_stopped : (new : List RatesView) → AllFollow kept new (acts.Control commands.Stop) t → entries_with state 1 0 ≤ plan.entry_limit →
+  pub shows_stopped : (new : List ExecutorState) → AllFollow kept new (acts.Control commands.Stop) t → entries_with state 1 0 ≤ plan.entry_limit →
       Shows plan pool new true (behind (acts.Control commands.Stop))
   shows_stopped new follow room =
       let act = acts.Control commands.Stop in
@@ -394,7 +401,7 @@ module _ {plan : Plan} {pool : PoolView} {kept : List RatesView} {stopped : Bool
       let shown = shows.busy in
       record {
         count = count_behind act;
-        rates = rates_stopped new follow;
+        scenarios = states_stopped new follow;
         well = well_plain act refl;
         made = shows.made;
         limit = shows.limit;

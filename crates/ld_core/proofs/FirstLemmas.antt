@@ -9,12 +9,11 @@ use Rattle.ld_machine.specs.Scenario.{Scenario, first_of, may_stop}
 use Rattle.ld_machine.specs.State.{free_users}
 use Rattle.ld_machine.specs.Together.{NoneActs, least_moment, lesser}
 use Rattle.ld_machine.specs.Wait.{least_of, scenario_moments}
-use Rattle.ld_machine.specs.Wishes.{WishesFirst}
+use Rattle.ld_machine.specs.Wishes.{WishesFirst, has_arrivals}
 use Rattle.ld_machine.proofs.CandidateLemmas.{flat-snoc}
 use Rattle.ld_pool.specs.Users as pools
-use Rattle.ld_rates.specs.Applies.{MayApplyWished}
-use Rattle.ld_rates.specs.RatesView.{RatesView}
-use Rattle.ld_rates.specs.Shows as rates
+use Rattle.ld_executor.specs.declared.executor_state.ExecutorState.{ExecutorState}
+use Rattle.ld_executor.specs.Shows as executors
 use Rattle.ld_core.specs.Core.{IsCore, core_view}
 use Rattle.ld_core.specs.CoreView.{CoreView, plan_of, state_of}
 use Rattle.ld_core.specs.Firsts.{ComesFirst, NoneNext, TellsNext}
@@ -38,26 +37,27 @@ index_of_plan c is now view n below =
     omega arith
 
 -- the kept state that is read at a number
-pub kept_read : (xs : List RatesView) (n : ℕ) (k : RatesView) → n < length xs → k ≡ slice_index_or xs n k → slice_get xs n ≡ Some k
+pub kept_read : (xs : List ExecutorState) (n : ℕ) (k : ExecutorState) → n < length xs → k ≡ slice_index_or xs n k → slice_get xs n ≡ Some k
 kept_read xs n k below is = slice_get_read xs (length xs) n k refl below is
 
-module _ (c : Inside) (is : IsCore c) (now : CoreView) (view : core_view c ≡ now) (t n : ℕ) (k : RatesView) (at : slice_get c.scenarios.items n ≡ Some k) where
-  pub halt_told : ((s : Scenario) → rates.Shows k s → true ≡ may_stop s t) → TellsNext now t n Halt
+module _ (c : Inside) (is : IsCore c) (now : CoreView) (view : core_view c ≡ now) (t n : ℕ) (k : ExecutorState) (at : slice_get c.scenarios.items n ≡ Some k) where
+  pub halt_told : ((s : Scenario) → executors.Shows k s → true ≡ may_stop s t) → TellsNext now t n Halt
   halt_told may =
       let found = shown_there is.shows n k at in
       subst (λ (v : CoreView). TellsNext v t n Halt) view (tells_halt (core_view c) t n found.0 k found.1 found.2 (sym (may found.0 found.2)))
 
-  pub wish_told : (free : Bool) (wish : Wish) → ((s : Scenario) → rates.Shows k s → false ≡ may_stop s t) → free ≡ is_some (first_of (free_users (state_of now))) →
-      ((s : Scenario) → rates.Shows k s → WishesFirst s t free 0 wish) → MayApplyWished k wish → wish ≢ Nothing → TellsNext now t n (Wished wish)
-  wish_told free wish may some wishes applies acts =
+  pub wish_told : (free arrivals : Bool) (wish : Wish) → ((s : Scenario) → executors.Shows k s → false ≡ may_stop s t) → free ≡ is_some (first_of (free_users (state_of now))) →
+      ((s : Scenario) → executors.Shows k s → WishesFirst s t free 0 wish) → ((s : Scenario) → executors.Shows k s → arrivals ≡ has_arrivals s.part.executor) → wish ≢ Nothing →
+      TellsNext now t n (Wished wish arrivals)
+  wish_told free arrivals wish may some wishes kind acts =
       let found = shown_there is.shows n k at in
-      let P : CoreView → Type 0 = λ v. free ≡ is_some (first_of (free_users (state_of v))) → TellsNext v t n (Wished wish) in
+      let P : CoreView → Type 0 = λ v. free ≡ is_some (first_of (free_users (state_of v))) → TellsNext v t n (Wished wish arrivals) in
       let inside : P (core_view c) = λ e.
-      tells_wished (core_view c) t n found.0 k found.1 found.2 free wish (sym (may found.0 found.2)) (sym e) (wishes found.0 found.2) applies acts in
+      tells_wished (core_view c) t n found.0 k found.1 found.2 free arrivals wish (sym (may found.0 found.2)) (sym e) (wishes found.0 found.2) (kind found.0 found.2) acts in
       subst P view inside some
 
-  pub none_told : (free : Bool) → ((s : Scenario) → rates.Shows k s → false ≡ may_stop s t) → free ≡ is_some (first_of (free_users (state_of now))) →
-      ((s : Scenario) → rates.Shows k s → WishesFirst s t free 0 Nothing) → NoneNext now t n
+  pub none_told : (free : Bool) → ((s : Scenario) → executors.Shows k s → false ≡ may_stop s t) → free ≡ is_some (first_of (free_users (state_of now))) →
+      ((s : Scenario) → executors.Shows k s → WishesFirst s t free 0 Nothing) → NoneNext now t n
   none_told free may some wishes =
       let found = shown_there is.shows n k at in
       let P : CoreView → Type 0 = λ v. free ≡ is_some (first_of (free_users (state_of v))) → NoneNext v t n in
@@ -99,8 +99,8 @@ take_whole (x ∷ xs) zero all = absurd (omega arith)
 take_whole (x ∷ xs) (suc i) all = ap (λ rest. x ∷ rest) (take_whole xs i (omega arith))
 
 module _ (c : Inside) (is : IsCore c) (now : CoreView) (view : core_view c ≡ now) (t i : ℕ) where
-  pub candidate_step : (k : RatesView) (least candidate next : Option ℕ) → slice_get c.scenarios.items i ≡ Some k → least ≡ least_moment t (take i (scenarios (plan_of now) (state_of now))) →
-      ((s : Scenario) → rates.Shows k s → candidate ≡ least_of (filter (nat_lt t) (scenario_moments s))) → next ≡ lesser least candidate →
+  pub candidate_step : (k : ExecutorState) (least candidate next : Option ℕ) → slice_get c.scenarios.items i ≡ Some k → least ≡ least_moment t (take i (scenarios (plan_of now) (state_of now))) →
+      ((s : Scenario) → executors.Shows k s → candidate ≡ least_of (filter (nat_lt t) (scenario_moments s))) → next ≡ lesser least candidate →
       next ≡ least_moment t (take (i + 1) (scenarios (plan_of now) (state_of now)))
   candidate_step k least candidate next at so_far of_one is_next =
       let P : CoreView → Type 0 = λ v. least ≡ least_moment t (take i (scenarios (plan_of v) (state_of v))) → next ≡ least_moment t (take (i + 1) (scenarios (plan_of v) (state_of v))) in

@@ -1,26 +1,27 @@
 -- Which of the scenarios' next acts comes first.
 use Rattle.std.proofs.Common.{◌≡◌, ◌≢◌, ◌<◌, ◌≤◌, ◌+◌, ◌==◌, ◌&&◌, ◌||◌, ◌⊎◌, nat_lt, ℕ, Bool, true, false, cond, List, [], ◌∷◌, Option, None, Some, Contains, length, slice_get, arith, refl, sym, ap, subst, inl, inr, ◌∙◌}
-use Rattle.std.specs.Prelude.{is_some}
+use Rattle.std.specs.Prelude.{is_some, if◌then◌else◌}
 use Rattle.std.proofs.lemmas.Grind.{common_steps}
 use Rattle.ld_base.specs.declared.wish.Wish.{Wish}
 use Rattle.ld_base.specs.declared.wish.Wish.TheVariants.{Nothing, Release, Take, Start, More, Drop, Late, Close}
 use Rattle.ld_machine.specs.Moves.{Answer, CountLate, Move, StopScenario, ReleaseUser, TakeUser, AnswerArrival, CloseScenario, StartOn, DropArrival, Users, moves_of, scenarios, users_of}
 use Rattle.ld_machine.specs.Order.{is_before, place_of}
 use Rattle.ld_machine.specs.Plan.{Part, Plan, hard_moment}
-use Rattle.ld_machine.specs.Scenario.{Scenario, first_of, may_hold_more, may_stop}
+use Rattle.ld_machine.specs.Scenario.{Scenario, first_of, may_stop}
 use Rattle.ld_machine.specs.State.{State, free_users}
 use Rattle.ld_machine.specs.Together.{IsFirstActOf, NoneActs, NoneActsBelow}
+use Rattle.ld_machine.specs.Told.{executor_has_place}
 use Rattle.ld_machine.specs.Wishes.{TellsFirst, WishesFirst, acts_wished, drop_wished, has_arrivals, more_answers, start_wished}
 use Rattle.ld_machine.proofs.FirstOfAllLemmas.{In-of, act_open}
-use Rattle.ld_machine.proofs.FirstOfEachLemmas.{none_below_more, first_found, first_kept_none, first_kept, first_replaced, first_at_end, none_at_end}
+use Rattle.ld_machine.proofs.FirstOfEachLemmas.{first_tells, none_below_more, first_found, first_kept_none, first_kept, first_replaced, first_at_end, none_at_end}
 use Rattle.ld_machine.proofs.ListLemmas.{here, nothing_in, In-map, In-one, Contains-from_In}
+use Rattle.ld_machine.proofs.ToldLemmas.{taken_place}
 use Rattle.ld_machine.proofs.WishedFirstLemmas.{halt_first, nothing_wished, wished_first}
-use Rattle.ld_rates.specs.Applies.{MayApplyWished}
-use Rattle.ld_rates.specs.RatesView.{RatesView}
-use Rattle.ld_rates.specs.Shows as rates
-use Rattle.ld_rates.proofs.KeptLemmas as kept
+use Rattle.ld_executor.specs.declared.executor_state.ExecutorState.{ExecutorState}
+use Rattle.ld_executor.specs.Shows as executors
+use Rattle.ld_executor.proofs.ShownLemmas.{shown_fits}
 use Rattle.ld_core.specs.CoreView.{CoreView, plan_of, state_of}
-use Rattle.ld_core.specs.Firsts.{ComesFirst, NoneNext, Tells, TellsBelow, TellsNext, acts_next, comes_before, due_of, earlier, rank_of}
+use Rattle.ld_core.specs.Firsts.{ComesFirst, NoneNext, SaysKind, Tells, TellsBelow, TellsNext, acts_next, comes_before, due_of, earlier, rank_of, rank_wished}
 use Rattle.ld_core.specs.declared.first.First.{First}
 use Rattle.ld_core.specs.declared.first.Next.{Next}
 use Rattle.ld_core.specs.declared.first.Next.TheVariants.{Halt, Wished}
@@ -28,37 +29,53 @@ use Rattle.ld_core.specs.declared.first.Next.TheVariants.{Halt, Wished}
 -- ---- places
 
 -- what stands behind the rank in the place of each act that this stands for
+abbrev rest_wished : ℕ → Wish → Bool → List ℕ
+rest_wished n (Take slot) arrivals = n ∷ slot ∷ []
+rest_wished n (Start user item until due) arrivals = if arrivals then due ∷ n ∷ [] else n ∷ []
+rest_wished n (More item until due slot) arrivals = due ∷ n ∷ []
+rest_wished n (Drop item due) arrivals = if arrivals then due ∷ n ∷ [] else n ∷ []
+rest_wished n (Late item due) arrivals = due ∷ n ∷ []
+rest_wished n (Release user) arrivals = n ∷ []
+rest_wished n Close arrivals = n ∷ []
+rest_wished n Nothing arrivals = n ∷ []
+
 abbrev rest_of : ℕ → Next → List ℕ
-rest_of n (Wished (Take slot)) = n ∷ slot ∷ []
-rest_of n (Wished (Start user item until due)) = due ∷ n ∷ []
-rest_of n (Wished (More item until due slot)) = due ∷ n ∷ []
-rest_of n (Wished (Drop item due)) = due ∷ n ∷ []
-rest_of n (Wished (Late item due)) = due ∷ n ∷ []
 rest_of n Halt = n ∷ []
-rest_of n (Wished (Release user)) = n ∷ []
-rest_of n (Wished Close) = n ∷ []
-rest_of n (Wished Nothing) = n ∷ []
+rest_of n (Wished wish arrivals) = rest_wished n wish arrivals
 
 place_is : (m other : Move) → Contains (other ∷ []) m → place_of m ≡ place_of other
 place_is m other at = ap place_of (sym (In-one m other (In-of at)))
 
-place_next : (n : ℕ) (users : Users) (part : Part) (next : Next) (m : Move) → has_arrivals part.executor ≡ true → Contains (acts_next n users part next) m →
-    place_of m ≡ rank_of next ∷ rest_of n next
-place_next n users part Halt m rates at = place_is m (StopScenario n) at
-place_next n users part (Wished Nothing) m rates at = absurd (nothing_in (In-of at))
-place_next n users part (Wished (Release user)) m rates at = place_is m (ReleaseUser n user) at
-place_next n users part (Wished (Take slot)) m rates at =
+start_place : (arrivals : Bool) (n user item until due : ℕ) →
+    place_of (start_wished arrivals n user item until due) ≡ rank_wished (Start user item until due) arrivals ∷ rest_wished n (Start user item until due) arrivals
+start_place true n user item until due = refl
+start_place false n user item until due = refl
+
+drop_place : (arrivals : Bool) (n item until due : ℕ) →
+    place_of (drop_wished arrivals n item until due) ≡ rank_wished (Drop item due) arrivals ∷ rest_wished n (Drop item due) arrivals
+drop_place true n item until due = refl
+drop_place false n item until due = refl
+
+place_wished : (n : ℕ) (users : Users) (part : Part) (wish : Wish) (m : Move) → Contains (acts_wished n users part wish) m →
+    place_of m ≡ rank_wished wish (has_arrivals part.executor) ∷ rest_wished n wish (has_arrivals part.executor)
+place_wished n users part Nothing m at = absurd (nothing_in (In-of at))
+place_wished n users part (Release user) m at = place_is m (ReleaseUser n user) at
+place_wished n users part (Take slot) m at =
     let found = In-map (λ user. TakeUser n user slot) m users.free (In-of at) in ap place_of (sym found.2)
-place_next n users part (Wished (Start user item until due)) m rates at =
-    let wished : start_wished (has_arrivals part.executor) n user item until due ≡ AnswerArrival n due item until (StartOn user) = rw rates refl in
-    place_is m (start_wished (has_arrivals part.executor) n user item until due) at ∙ ap place_of wished
-place_next n users part (Wished (More item until due slot)) m rates at =
+place_wished n users part (Start user item until due) m at =
+    place_is m (start_wished (has_arrivals part.executor) n user item until due) at ∙ start_place (has_arrivals part.executor) n user item until due
+place_wished n users part (More item until due slot) m at =
     let found = In-map (λ (answer : Answer). AnswerArrival n due item until answer) m (more_answers users slot) (In-of at) in ap place_of (sym found.2)
-place_next n users part (Wished (Drop item due)) m rates at =
-    let wished : drop_wished (has_arrivals part.executor) n item (hard_moment part) due ≡ AnswerArrival n due item (hard_moment part) DropArrival = rw rates refl in
-    place_is m (drop_wished (has_arrivals part.executor) n item (hard_moment part) due) at ∙ ap place_of wished
-place_next n users part (Wished (Late item due)) m rates at = place_is m (AnswerArrival n due item (hard_moment part) CountLate) at
-place_next n users part (Wished Close) m rates at = place_is m (CloseScenario n) at
+place_wished n users part (Drop item due) m at =
+    place_is m (drop_wished (has_arrivals part.executor) n item (hard_moment part) due) at ∙ drop_place (has_arrivals part.executor) n item (hard_moment part) due
+place_wished n users part (Late item due) m at = place_is m (AnswerArrival n due item (hard_moment part) CountLate) at
+place_wished n users part Close m at = place_is m (CloseScenario n) at
+
+place_next : (n : ℕ) (users : Users) (part : Part) (next : Next) (m : Move) → SaysKind part.executor next → Contains (acts_next n users part next) m →
+    place_of m ≡ rank_of next ∷ rest_of n next
+place_next n users part Halt m kind at = place_is m (StopScenario n) at
+place_next n users part (Wished wish arrivals) m kind at =
+    place_wished n users part wish m at ∙ ap (λ (b : Bool). rank_wished wish b ∷ rest_wished n wish b) (sym kind)
 
 -- an arrival goes by its moment and then its scenario, and all else by its scenario first
 record Arrives (n : ℕ) (next : Next) : Type 0 where
@@ -71,16 +88,21 @@ record ArrivesNot (n : ℕ) (next : Next) : Type 0 where
   rest : rest_of n next ≡ n ∷ tail
   due : due_of next ≡ 0
 
+wished_arrives : (n : ℕ) (wish : Wish) (arrivals : Bool) → Arrives n (Wished wish arrivals) ⊎ ArrivesNot n (Wished wish arrivals)
+wished_arrives n Nothing arrivals = inr (record { rank = λ e. absurd (omega arith); tail = []; rest = refl; due = refl })
+wished_arrives n (Release user) arrivals = inr (record { rank = λ e. absurd (omega arith); tail = []; rest = refl; due = refl })
+wished_arrives n (Take slot) arrivals = inr (record { rank = λ e. absurd (omega arith); tail = slot ∷ []; rest = refl; due = refl })
+wished_arrives n (Start user item until due) true = inl (record { rank = refl; rest = refl })
+wished_arrives n (Start user item until due) false = inr (record { rank = λ e. absurd (omega arith); tail = []; rest = refl; due = refl })
+wished_arrives n (More item until due slot) arrivals = inl (record { rank = refl; rest = refl })
+wished_arrives n (Drop item due) true = inl (record { rank = refl; rest = refl })
+wished_arrives n (Drop item due) false = inr (record { rank = λ e. absurd (omega arith); tail = []; rest = refl; due = refl })
+wished_arrives n (Late item due) arrivals = inl (record { rank = refl; rest = refl })
+wished_arrives n Close arrivals = inr (record { rank = λ e. absurd (omega arith); tail = []; rest = refl; due = refl })
+
 arrives_or_not : (n : ℕ) (next : Next) → Arrives n next ⊎ ArrivesNot n next
 arrives_or_not n Halt = inr (record { rank = λ e. absurd (omega arith); tail = []; rest = refl; due = refl })
-arrives_or_not n (Wished Nothing) = inr (record { rank = λ e. absurd (omega arith); tail = []; rest = refl; due = refl })
-arrives_or_not n (Wished (Release user)) = inr (record { rank = λ e. absurd (omega arith); tail = []; rest = refl; due = refl })
-arrives_or_not n (Wished (Take slot)) = inr (record { rank = λ e. absurd (omega arith); tail = slot ∷ []; rest = refl; due = refl })
-arrives_or_not n (Wished (Start user item until due)) = inl (record { rank = refl; rest = refl })
-arrives_or_not n (Wished (More item until due slot)) = inl (record { rank = refl; rest = refl })
-arrives_or_not n (Wished (Drop item due)) = inl (record { rank = refl; rest = refl })
-arrives_or_not n (Wished (Late item due)) = inl (record { rank = refl; rest = refl })
-arrives_or_not n (Wished Close) = inr (record { rank = λ e. absurd (omega arith); tail = []; rest = refl; due = refl })
+arrives_or_not n (Wished wish arrivals) = wished_arrives n wish arrivals
 
 later_not_before : (k n : ℕ) (more others : List ℕ) → n < k → is_before (k ∷ more) (n ∷ others) ≡ false
 later_not_before k n more others below =
@@ -128,10 +150,10 @@ tells_by tells along =
     record {
       s = tells.s;
       stands = tells.stands;
-      rates = tells.rates;
+      kind = tells.kind;
       says = λ m at. along m (tells.says m at);
       some = tells.some;
-      more = tells.more;
+      place = tells.place;
     }
 
 module _ (core : CoreView) (t : ℕ) where
@@ -151,7 +173,7 @@ module _ (core : CoreView) (t : ℕ) where
       Contains (acts_next first.scenario (users_of plan state) a.1.s.part first.next) m → Contains (acts_next k (users_of plan state) b.s.part next) other →
       is_before (place_of other) (place_of m) ≡ comes_before next first.next
   places k first next a b m other at other_at =
-      rw (place_next first.scenario (users_of plan state) a.1.s.part first.next m a.1.rates at, place_next k (users_of plan state) b.s.part next other b.rates other_at)
+      rw (place_next first.scenario (users_of plan state) a.1.s.part first.next m a.1.kind at, place_next k (users_of plan state) b.s.part next other b.kind other_at)
       (compared k first.scenario a.0 next first.next)
 
   both_looked : (k : ℕ) (first : First) (next : Next) (b : Bool) → TellsBelow core t k first → TellsNext core t k next → comes_before next first.next ≡ b →
@@ -161,10 +183,10 @@ module _ (core : CoreView) (t : ℕ) where
     record {
       s = b.s;
       stands = b.stands;
-      rates = b.rates;
+      kind = b.kind;
       says = λ m at. first_replaced plan state t k a.1.some.0 m (a.1.says a.1.some.0 a.1.some.1) (b.says m at) (places k first next a b a.1.some.0 m a.1.some.1 at ∙ before);
       some = b.some;
-      more = b.more;
+      place = b.place;
     },
   )
   both_looked k first next false a b before = (
@@ -172,10 +194,10 @@ module _ (core : CoreView) (t : ℕ) where
     record {
       s = a.1.s;
       stands = a.1.stands;
-      rates = a.1.rates;
+      kind = a.1.kind;
       says = λ m at. first_kept plan state t k m b.some.0 (a.1.says m at) (b.says b.some.0 b.some.1) (places k first next a b m b.some.0 at b.some.1 ∙ before);
       some = a.1.some;
-      more = a.1.more;
+      place = a.1.place;
     },
   )
 
@@ -197,49 +219,59 @@ module _ (core : CoreView) (t : ℕ) where
 
   -- ---- one scenario
 
-  module _ (n : ℕ) (s : Scenario) (k : RatesView) (stands : slice_get (scenarios plan state) n ≡ Some s) (shown : rates.Shows k s) where
+  module _ (n : ℕ) (s : Scenario) (k : ExecutorState) (stands : slice_get (scenarios plan state) n ≡ Some s) (shown : executors.Shows k s) where
     pub tells_halt : may_stop s t ≡ true → TellsNext core t n Halt
     tells_halt may =
         record {
           s = s;
           stands = stands;
-          rates = shown.rates;
+          kind = tt;
           says = λ m at. subst (λ (x : Move). IsFirstActOf plan state t n x) (In-one m (StopScenario n) (In-of at)) (halt_first plan state t n s stands may);
           some = (StopScenario n, Contains-from_In (StopScenario n) (here {xs = []}));
-          more = λ slot e. absurd (cc);
+          place = λ slot arrivals e. absurd (cc);
         }
+
+    some_same : {A : Type 0} {x y : A} → Some x ≡ Some y → x ≡ y
+    some_same e = cc
 
     some_act : (moves : List Move) → moves ≢ [] → (m : Move) × Contains moves m
     some_act [] some = absurd (some refl)
     some_act (m ∷ rest) some = (m, Contains-from_In m (here {xs = rest}))
 
-    holds_more : length k.held < k.max → may_hold_more s ≡ true
-    holds_more fewer =
-        let count = kept.count_shown k s shown in
-        let most : k.max ≡ (rates.kept_of s).max = rw shown.kept refl in
-        grind (arith, common_steps)
+    -- where a user is to be taken there is a place for it
+    take_place : (arrivals : Bool) (wish : Wish) → ((m : Move) → Contains (acts_wished n (users_of plan state) s.part wish) m → IsFirstActOf plan state t n m) →
+        ((m : Move) × Contains (acts_wished n (users_of plan state) s.part wish) m) → (slot : ℕ) (kind : Bool) → Wished wish arrivals ≡ Wished (Take slot) kind →
+        executor_has_place s.part.executor s slot ≡ true
+    take_place arrivals (Take other) says some slot kind e =
+        let same : other ≡ slot = cc in
+        let found = In-map (λ user. TakeUser n user other) some.0 (users_of plan state).free (In-of some.1) in
+        let first : IsFirstActOf plan state t n (TakeUser n found.0 other) = subst (λ (m : Move). IsFirstActOf plan state t n m) (sym found.2) (says some.0 some.1) in
+        let here_stands : first.0 ≡ s = some_same (sym first.1 ∙ stands) in
+        let among : Contains (moves_of (users_of plan state) n s t) (TakeUser n found.0 other) =
+        subst (λ (x : Scenario). Contains (moves_of (users_of plan state) n x t) (TakeUser n found.0 other)) here_stands (first_tells _ (TakeUser n found.0 other) first.2).0 in
+        subst (λ (j : ℕ). executor_has_place s.part.executor s j ≡ true) same (taken_place n t found.0 other (users_of plan state) s (shown_fits k s shown) among)
+    take_place arrivals Nothing says some slot kind e = absurd (cc)
+    take_place arrivals (Release user) says some slot kind e = absurd (cc)
+    take_place arrivals (Start user item until due) says some slot kind e = absurd (cc)
+    take_place arrivals (More item until due other) says some slot kind e = absurd (cc)
+    take_place arrivals (Drop item due) says some slot kind e = absurd (cc)
+    take_place arrivals (Late item due) says some slot kind e = absurd (cc)
+    take_place arrivals Close says some slot kind e = absurd (cc)
 
-    take_more : (wish : Wish) → MayApplyWished k wish → (slot : ℕ) → Wished wish ≡ Wished (Take slot) → may_hold_more s ≡ true
-    take_more (Take other) may slot e = holds_more may
-    take_more Nothing may slot e = absurd (cc)
-    take_more (Release user) may slot e = absurd (cc)
-    take_more (Start user item until due) may slot e = absurd (cc)
-    take_more (More item until due other) may slot e = absurd (cc)
-    take_more (Drop item due) may slot e = absurd (cc)
-    take_more (Late item due) may slot e = absurd (cc)
-    take_more Close may slot e = absurd (cc)
-
-    pub tells_wished : (free : Bool) (wish : Wish) → may_stop s t ≡ false → is_some (first_of (free_users state)) ≡ free → WishesFirst s t free 0 wish →
-        MayApplyWished k wish → wish ≢ Nothing → TellsNext core t n (Wished wish)
-    tells_wished free wish no_stop some wishes may acts =
+    pub tells_wished : (free arrivals : Bool) (wish : Wish) → may_stop s t ≡ false → is_some (first_of (free_users state)) ≡ free → WishesFirst s t free 0 wish →
+        arrivals ≡ has_arrivals s.part.executor → wish ≢ Nothing → TellsNext core t n (Wished wish arrivals)
+    tells_wished free arrivals wish no_stop some wishes kind acts =
         let tells : TellsFirst n (users_of plan state) s t 0 wish = wishes n (users_of plan state) some in
+        let says : (m : Move) → Contains (acts_wished n (users_of plan state) s.part wish) m → IsFirstActOf plan state t n m =
+        λ m at. wished_first plan state t n 0 s wish m stands no_stop tells at in
+        let one = some_act (acts_wished n (users_of plan state) s.part wish) (λ e. acts (tells.something e)) in
         record {
           s = s;
           stands = stands;
-          rates = shown.rates;
-          says = λ m at. wished_first plan state t n 0 s wish m stands no_stop tells at;
-          some = some_act (acts_wished n (users_of plan state) s.part wish) (λ e. acts (tells.something e));
-          more = take_more wish may;
+          kind = kind;
+          says = says;
+          some = one;
+          place = take_place arrivals wish says one;
         }
 
     pub tells_none : (free : Bool) → may_stop s t ≡ false → is_some (first_of (free_users state)) ≡ free → WishesFirst s t free 0 Nothing → NoneNext core t n

@@ -24,8 +24,11 @@ use Rattle.ld_machine.specs.Scenario.{Scenario}
 use Rattle.ld_machine.specs.Step.{Result, answered, check_reply, level_halts, outcome_of, performed, results, return_of}
 use Rattle.ld_machine.proofs.FirstOfAllLemmas.{all_from, closed_over, each_closed, false_unless}
 use Rattle.ld_machine.proofs.ListLemmas.{here, both_true, Contains-from_In}
-use Rattle.ld_rates.specs.RatesView.{RatesView, number_of}
-use Rattle.ld_rates.specs.Shows as rates
+use Rattle.ld_executor.specs.declared.executor_state.ExecutorState.{ExecutorState}
+use Rattle.ld_machine.specs.Told.{level_number}
+use Rattle.ld_executor.specs.Shows as executors
+use Rattle.ld_executor.specs.Shows.{closed_of}
+use Rattle.ld_executor.proofs.ShownLemmas.{shown_closed}
 use Rattle.ld_core.specs.Changes.{IsReturn}
 use Rattle.ld_core.specs.Core.{IsCore, core_view}
 use Rattle.ld_core.specs.CoreView.{Adds, CoreView, IsAsked, plan_of, state_of}
@@ -69,35 +72,29 @@ noted_alone core new thread t ask act only adds =
 
 -- ---- closed, and halts
 
-abbrev is_closed : RatesView → Bool
-is_closed k = k.closed
-
-all_at : (xs : List RatesView) → list_all is_closed xs ≡ true → (n : ℕ) (k : RatesView) → slice_get xs n ≡ Some k → k.closed ≡ true
+all_at : (xs : List ExecutorState) → list_all closed_of xs ≡ true → (n : ℕ) (k : ExecutorState) → slice_get xs n ≡ Some k → closed_of k ≡ true
 all_at [] all n k at = absurd (cc)
-all_at (x ∷ xs) all zero k at = let both = both_true x.closed (list_all is_closed xs) all in let same : x ≡ k = cc in subst (λ (v : RatesView). v.closed ≡ true) same both.0
-all_at (x ∷ xs) all (suc n) k at = let both = both_true x.closed (list_all is_closed xs) all in all_at xs both.1 n k at
+all_at (x ∷ xs) all zero k at = let both = both_true (closed_of x) (list_all closed_of xs) all in let same : x ≡ k = cc in subst (λ (v : ExecutorState). closed_of v ≡ true) same both.0
+all_at (x ∷ xs) all (suc n) k at = let both = both_true (closed_of x) (list_all closed_of xs) all in all_at xs both.1 n k at
 
-at_all : (xs : List RatesView) → ((n : ℕ) (k : RatesView) → slice_get xs n ≡ Some k → k.closed ≡ true) → list_all is_closed xs ≡ true
+at_all : (xs : List ExecutorState) → ((n : ℕ) (k : ExecutorState) → slice_get xs n ≡ Some k → closed_of k ≡ true) → list_all closed_of xs ≡ true
 at_all [] each = refl
 at_all (x ∷ xs) each = rw (each 0 x refl, at_all xs (λ n k at. each (suc n) k at)) refl
 
-closed_same : (k : RatesView) (s : Scenario) → rates.Shows k s → k.closed ≡ s.share.closed
-closed_same k s shown = rw shown.kept refl
-
-closed_kept : (c : Inside) (is : IsCore c) → list_all is_closed c.scenarios.items ≡ machine.all_closed (state_of (core_view c))
+closed_kept : (c : Inside) (is : IsCore c) → list_all closed_of c.scenarios.items ≡ machine.all_closed (state_of (core_view c))
 closed_kept c is =
     let state = state_of (core_view c) in
-    let P : Bool → Type 0 = λ b. list_all is_closed c.scenarios.items ≡ b → b ≡ machine.all_closed state in
-    let either : P (list_all is_closed c.scenarios.items) = elim (list_all is_closed c.scenarios.items) as P [
+    let P : Bool → Type 0 = λ b. list_all closed_of c.scenarios.items ≡ b → b ≡ machine.all_closed state in
+    let either : P (list_all closed_of c.scenarios.items) = elim (list_all closed_of c.scenarios.items) as P [
       | true ↦ λ all. sym (all_from state.shares (λ n share at.
           let s = share_scenario n share at in
           let k = kept_there is.shows n s.0 s.1 in
           let closed = all_at c.scenarios.items all n k.0 k.1 in
-          ap (λ (x : machine.Share). x.closed) (sym s.2) ∙ sym (closed_same k.0 s.0 k.2) ∙ closed))
+          ap (λ (x : machine.Share). x.closed) (sym s.2) ∙ sym (shown_closed k.0 s.0 k.2) ∙ closed))
       | false ↦ λ all. sym (false_unless (machine.all_closed state) (λ closed.
           let every = at_all c.scenarios.items (λ n k at.
           let s = shown_there is.shows n k at in
-          closed_same k s.0 s.2 ∙ each_closed state closed n s.0.share (part_there is.shows n s.0 s.1).1) in
+          shown_closed k s.0 s.2 ∙ each_closed state closed n s.0.share (part_there is.shows n s.0 s.1).1) in
           absurd (cc)))
     ] in either refl
   where
@@ -110,7 +107,7 @@ closed_kept c is =
         let there = part_there is.shows n s.0 s.1 in
         (s.0, s.1, let both : Some s.0.share ≡ Some share = sym there.1 ∙ at in cc)
 
-pub closed_shown : (c : Inside) → IsCore c → (now : CoreView) → core_view c ≡ now → (closed : Bool) → closed ≡ list_all (λ (k : RatesView). k.closed) c.scenarios.items →
+pub closed_shown : (c : Inside) → IsCore c → (now : CoreView) → core_view c ≡ now → (closed : Bool) → closed ≡ list_all closed_of c.scenarios.items →
     closed ≡ machine.all_closed (state_of now)
 closed_shown c is now view closed shown = shown ∙ closed_kept c is ∙ ap (λ (v : CoreView). machine.all_closed (state_of v)) view
 
@@ -119,18 +116,15 @@ over core thread t closed = answered_alone core thread t asks.Act Over (closed_o
 
 -- ---- Check and Look
 
-halted : (level : machine.Level) → number_of (rates.kept_level level) ≡ 2 → level_halts level ≡ true
+halted : (level : machine.Level) → level_number level ≡ 2 → level_halts level ≡ true
 halted machine.Runs e = absurd (omega arith)
 halted (machine.StartsNothing commanded) e = absurd (omega arith)
 halted machine.Halted e = refl
 
-not_halted : (level : machine.Level) → number_of (rates.kept_level level) ≢ 2 → level_halts level ≡ false
+not_halted : (level : machine.Level) → level_number level ≢ 2 → level_halts level ≡ false
 not_halted machine.Runs e = refl
 not_halted (machine.StartsNothing commanded) e = refl
 not_halted machine.Halted e = absurd (e refl)
-
-level_same : (k : RatesView) (s : Scenario) → rates.Shows k s → number_of k.level ≡ number_of (rates.kept_level s.share.level)
-level_same k s shown = ap (λ (v : RatesView). number_of v.level) shown.kept
 
 checked : (core : CoreView) (n : ℕ) (share : machine.Share) → slice_get (state_of core).shares n ≡ Some share → (halts : Bool) → level_halts share.level ≡ halts → (thread t : ℕ) →
     IsAsked core core thread (asks.Check n) t (cond halts Halt Go)
@@ -140,20 +134,21 @@ checked core n share at halts level thread t =
     ap (λ (o : Option machine.Share). option_map_or (λ (share : machine.Share). answered (state_of core) (check_reply share) ∷ []) o []) at in
     answered_alone core thread t (asks.Check n) (cond halts Halt Go) (all ∙ ap (λ (r : Reply). answered (state_of core) r ∷ []) reply)
 
-module _ (c : Inside) (is : IsCore c) (now : CoreView) (view : core_view c ≡ now) (n : ℕ) (k : RatesView) (at : slice_get c.scenarios.items n ≡ Some k) where
-  pub halts : number_of k.level ≡ 2 → (thread t : ℕ) → IsAsked now now thread (asks.Check n) t Halt
+module _ (c : Inside) (is : IsCore c) (now : CoreView) (view : core_view c ≡ now) (n : ℕ) (k : ExecutorState) (at : slice_get c.scenarios.items n ≡ Some k)
+    (level : ℕ) (level_is : (s : Scenario) → executors.Shows k s → level ≡ level_number s.share.level) where
+  pub halts : level ≡ 2 → (thread t : ℕ) → IsAsked now now thread (asks.Check n) t Halt
   halts two thread t =
       let s = shown_there is.shows n k at in
       let there = part_there is.shows n s.0 s.1 in
       subst (λ (v : CoreView). IsAsked v v thread (asks.Check n) t Halt) view
-      (checked (core_view c) n s.0.share there.1 true (halted s.0.share.level (sym (level_same k s.0 s.2) ∙ two)) thread t)
+      (checked (core_view c) n s.0.share there.1 true (halted s.0.share.level (sym (level_is s.0 s.2) ∙ two)) thread t)
 
-  pub goes : number_of k.level ≢ 2 → (thread t : ℕ) → IsAsked now now thread (asks.Check n) t Go
+  pub goes : level ≢ 2 → (thread t : ℕ) → IsAsked now now thread (asks.Check n) t Go
   goes other thread t =
       let s = shown_there is.shows n k at in
       let there = part_there is.shows n s.0 s.1 in
       subst (λ (v : CoreView). IsAsked v v thread (asks.Check n) t Go) view
-      (checked (core_view c) n s.0.share there.1 false (not_halted s.0.share.level (λ e. other (level_same k s.0 s.2 ∙ e))) thread t)
+      (checked (core_view c) n s.0.share there.1 false (not_halted s.0.share.level (λ e. other (level_is s.0 s.2 ∙ e))) thread t)
 
 pub look_over : (core : CoreView) (thread t : ℕ) → machine.all_closed (state_of core) ≡ true → IsAsked core core thread asks.Look t Over
 look_over core thread t closed = answered_alone core thread t asks.Look Over (rw closed refl)

@@ -21,8 +21,8 @@ use Rattle.ld_pool.specs.Users as pools
 use Rattle.ld_pool.specs.declared.user.User.{User}
 use Rattle.ld_pool.specs.declared.user.User.TheVariants as users
 use Rattle.ld_pool.proofs.UserLemmas.{user_at_place}
-use Rattle.ld_rates.specs.RatesView.{RatesView}
-use Rattle.ld_rates.specs.Shows as rates
+use Rattle.ld_executor.specs.declared.executor_state.ExecutorState.{ExecutorState}
+use Rattle.ld_executor.specs.Shows as executors
 use Rattle.ld_core.specs.Shows.{Shows, condition_user, user_held, user_of}
 use Rattle.ld_core.proofs.RangeLemmas.{at_range}
 
@@ -83,12 +83,12 @@ pub record Finds (state : State) (n user : ℕ) (condition : Condition) : Type 0
   pub some : 1 ≤ user
   pub within : user ≤ state.made
 
-module _ {plan : Plan} {pool : PoolView} {kept : List RatesView} {stopped : Bool} {state : State} (shows : Shows plan pool kept stopped state) where
+module _ {plan : Plan} {pool : PoolView} {kept : List ExecutorState} {stopped : Bool} {state : State} (shows : Shows plan pool kept stopped state) where
   pub scenarios_long : length (scenarios plan state) ≡ length plan.parts
   scenarios_long = length-with state.controls plan.parts state.shares shows.count
 
   pub kept_long : length kept ≡ length plan.parts
-  kept_long = shows.rates.count ∙ scenarios_long
+  kept_long = shows.scenarios.count ∙ scenarios_long
 
   pub scenario_below : (n : ℕ) (s : Scenario) → slice_get (scenarios plan state) n ≡ Some s → n < length plan.parts
   scenario_below n s stands =
@@ -99,19 +99,19 @@ module _ {plan : Plan} {pool : PoolView} {kept : List RatesView} {stopped : Bool
   pub scenario_there : (n : ℕ) → n < length plan.parts → (s : Scenario) × (slice_get (scenarios plan state) n ≡ Some s)
   scenario_there n below = let long = scenarios_long in there_below (scenarios plan state) n (omega arith)
 
-  pub kept_there : (n : ℕ) (s : Scenario) → slice_get (scenarios plan state) n ≡ Some s → (k : RatesView) × (slice_get kept n ≡ Some k) × rates.Shows k s
+  pub kept_there : (n : ℕ) (s : Scenario) → slice_get (scenarios plan state) n ≡ Some s → (k : ExecutorState) × (slice_get kept n ≡ Some k) × executors.Shows k s
   kept_there n s stands =
       let within = slice_get_within (scenarios plan state) n s stands in
-      let long = shows.rates.count in
+      let long = shows.scenarios.count in
       let k = there_below kept n (omega arith) in
-      (k.0, k.1, shows.rates.each n k.0 s k.1 stands)
+      (k.0, k.1, shows.scenarios.each n k.0 s k.1 stands)
 
-  pub shown_there : (n : ℕ) (k : RatesView) → slice_get kept n ≡ Some k → (s : Scenario) × (slice_get (scenarios plan state) n ≡ Some s) × rates.Shows k s
+  pub shown_there : (n : ℕ) (k : ExecutorState) → slice_get kept n ≡ Some k → (s : Scenario) × (slice_get (scenarios plan state) n ≡ Some s) × executors.Shows k s
   shown_there n k at =
       let within = slice_get_within kept n k at in
-      let long = shows.rates.count in
+      let long = shows.scenarios.count in
       let s = there_below (scenarios plan state) n (omega arith) in
-      (s.0, s.1, shows.rates.each n k s.0 at s.1)
+      (s.0, s.1, shows.scenarios.each n k s.0 at s.1)
 
   pub part_there : (n : ℕ) (s : Scenario) → slice_get (scenarios plan state) n ≡ Some s →
       (slice_get plan.parts n ≡ Some s.part) × (slice_get state.shares n ≡ Some s.share)

@@ -7,12 +7,11 @@ use Rattle.std.proofs.lemmas.List.Sums.{sum_by-cons}
 use Rattle.ld_machine.specs.Holders.{holder_of}
 use Rattle.ld_machine.specs.Moment.{moment_after}
 use Rattle.ld_machine.specs.Moves.{scenarios}
-use Rattle.ld_machine.specs.Plan.{Executor, SharedIterations, PerVuIterations, ConstantVus, RampingVus, ArrivalRate, ExternallyControlled, Plan, is_external}
+use Rattle.ld_machine.specs.Plan.{Plan, is_external}
 use Rattle.ld_machine.specs.Scenario.{Scenario, first_of, is_open}
 use Rattle.ld_machine.specs.State.{Condition, Idle, Busy, HeldUser, Share, State, free_users, is_held}
 use Rattle.ld_machine.specs.Together.{IsLeastAbove, least_above, least_moment, least_until_in, lesser}
 use Rattle.ld_machine.specs.Wait.{busy_until, is_external_open, least_of, next_candidate, short_wait, untils, wait_moment}
-use Rattle.ld_machine.specs.Wishes.{has_arrivals}
 use Rattle.ld_machine.proofs.CandidateLemmas.{above_is, above_none, above_tells, none_above, next_of_parts}
 use Rattle.ld_machine.proofs.FirstOfAllLemmas.{In-of, false_unless}
 use Rattle.ld_machine.proofs.ListLemmas.{In, here, there, Contains-from_In, In-filter_map, In-flat_map, In-from_any, In-map, map-In, nothing_in, both_true}
@@ -21,7 +20,8 @@ use Rattle.ld_machine.proofs.WhoHoldsLemmas.{holder_in_share, no_holder}
 use Rattle.ld_pool.specs.Pool.{PoolView}
 use Rattle.ld_pool.specs.Users as pools
 use Rattle.ld_pool.specs.declared.user.User.{User}
-use Rattle.ld_rates.specs.RatesView.{RatesView}
+use Rattle.ld_executor.specs.declared.executor_state.ExecutorState.{ExecutorState}
+use Rattle.ld_executor.proofs.ShownLemmas.{shown_inside}
 use Rattle.ld_core.specs.Core.{IsCore, core_view}
 use Rattle.ld_core.specs.CoreView.{CoreView, plan_of, state_of}
 use Rattle.ld_core.specs.Shows.{Shows, condition_user, user_held, user_of}
@@ -73,7 +73,7 @@ some_counted [] = refl
 some_counted (x ∷ xs) = grind (arith, common_steps)
 
 -- whether a user is free, by the pool's count
-pub free_shown : {plan : Plan} {pool : PoolView} {kept : List RatesView} {stopped : Bool} {state : State} → Shows plan pool kept stopped state →
+pub free_shown : {plan : Plan} {pool : PoolView} {kept : List ExecutorState} {stopped : Bool} {state : State} → Shows plan pool kept stopped state →
     is_some (first_of (free_users state)) ≡ nat_lt 0 (pools.free_count pool.users)
 free_shown {plan} {pool} {kept} {stopped} {state} shows =
     some_counted (free_users state) ∙ ap (λ (k : ℕ). nat_lt 0 k) (free_counted state (range_with_len 1 state.made) ∙ ap pools.free_count (sym shows.users))
@@ -128,7 +128,7 @@ least_same t xs ys to from =
           sym (above_is t ys least (Contains-from_In least (to least (In-of is.0)), is.1, λ x at above. is.2 x (Contains-from_In x (from x (In-of at))) above))
     ] in either refl
 
-module _ {plan : Plan} {pool : PoolView} {kept : List RatesView} {stopped : Bool} {state : State} (shows : Shows plan pool kept stopped state) where
+module _ {plan : Plan} {pool : PoolView} {kept : List ExecutorState} {stopped : Bool} {state : State} (shows : Shows plan pool kept stopped state) where
   pool_until : (m : ℕ) → In m (pools.untils_of pool.users) → In m (flat_map untils state.shares)
   pool_until m at =
       let there_is : In m (filter_map pools.until_of (map (user_of state) (range_with_len 1 state.made))) = subst (λ (l : List User). In m (filter_map pools.until_of l)) shows.users at in
@@ -159,14 +159,6 @@ module _ {plan : Plan} {pool : PoolView} {kept : List RatesView} {stopped : Bool
 
   -- ---- the moment to wait for
 
-  inside_only : (e : Executor) → has_arrivals e ≡ true → is_external e ≡ false
-  inside_only (ArrivalRate pre most arrivals) its = refl
-  inside_only (SharedIterations users items) its = absurd (cc)
-  inside_only (PerVuIterations slots items) its = absurd (cc)
-  inside_only (ConstantVus slots) its = absurd (cc)
-  inside_only (RampingVus grace slots) its = absurd (cc)
-  inside_only (ExternallyControlled vus most slots) its = absurd (cc)
-
   scenario_number : (list : List Scenario) (s : Scenario) → In s list → (n : ℕ) × (slice_get list n ≡ Some s)
   scenario_number [] s at = absurd (nothing_in at)
   scenario_number (x ∷ rest) s here = (0, refl)
@@ -179,7 +171,7 @@ module _ {plan : Plan} {pool : PoolView} {kept : List RatesView} {stopped : Bool
       let external = (both_true (is_open found.0) (is_external found.0.part.executor) found.2).1 in
       let number = scenario_number (scenarios plan state) found.0 found.1 in
       let k = kept_there shows number.0 found.0 number.1 in
-      let inside = inside_only found.0.part.executor k.2.rates in
+      let inside = shown_inside k.0 found.0 k.2 in
       absurd (cc))
 
   pub wait_shown : (t : ℕ) (candidate until : Option ℕ) → candidate ≡ least_moment t (scenarios plan state) → until ≡ least_of (filter (nat_lt t) (pools.untils_of pool.users)) →

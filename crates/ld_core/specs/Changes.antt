@@ -15,7 +15,7 @@ use Rattle.ld_machine.specs.Scenario.{Scenario}
 use Rattle.ld_machine.specs.State.{State}
 use Rattle.ld_machine.specs.Told.{MayBeTold, executor_has_place}
 use Rattle.ld_machine.specs.Step.{is_out}
-use Rattle.ld_executor.specs.Shows.{Follows}
+use Rattle.ld_executor.specs.Shows.{Follows, MayTell}
 use Rattle.ld_executor.specs.declared.executor_state.ExecutorState.{ExecutorState}
 use Rattle.ld_core.specs.CoreView.{CoreView, plan_of, state_of}
 
@@ -52,6 +52,10 @@ LeavesUsers n (acts.Late k item) = k ≡ n
 LeavesUsers n (acts.Stop k) = k ≡ n
 LeavesUsers n (acts.Close k) = k ≡ n
 LeavesUsers n _ = ⊥
+
+-- each state shows a scenario that may be told of the act
+abbrev pub AllMayTell : List ExecutorState → Act → Type 0
+AllMayTell states act = (n : ℕ) (state : ExecutorState) → slice_get states n ≡ Some state → MayTell state act
 
 -- behind an act that all scenarios are told of, whichever the old states show, the new ones show what the act makes of them
 pub record AllFollow (old new : List ExecutorState) (act : Act) (reading : ℕ) : Type 0 where

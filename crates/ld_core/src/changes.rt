@@ -151,7 +151,7 @@ impl Core {
 
 ghost use Rattle.ld_base.specs.declared.act.Act.{Act};
 ghost use Rattle.ld_base.specs.declared.command.Command.{Command};
-ghost use Rattle.ld_core.specs.Changes.{AllFollow};
+ghost use Rattle.ld_core.specs.Changes.{AllFollow, AllMayTell};
 ghost use Rattle.ld_executor.specs.Shows.{Follows, MayTell};
 
 // Applies an act to its scenario, and writes its entry.
@@ -183,6 +183,7 @@ fn write(history: &mut History, thread: u32, act: Act, reading: u64)
 
 // Tells each scenario of a commanded stop.
 fn stop_each(scenarios: &mut [ExecutorState], reading: u64)
+    requires { AllMayTell scenarios.old (Act.Control Command.Stop) }
     ensures { AllFollow scenarios.old scenarios.new (Act.Control Command.Stop) reading }
 {
     let act = Act::Control {

@@ -1,5 +1,5 @@
 -- What a state of one executor shows.
-use Rattle.std.proofs.Common.{◌≡◌, ◌∙◌, ℕ, Option, Some, IsTrue, ap, refl, slice_get, subst, sym}
+use Rattle.std.proofs.Common.{◌≡◌, ◌∙◌, ℕ, Bool, Option, Some, IsTrue, ap, refl, slice_get, subst, sym}
 use Rattle.std.specs.Prelude.{IsSomeAnd}
 use Rattle.ld_base.specs.declared.act.Act.{Act}
 use Rattle.ld_machine.specs.Plan.{Executor, Part, Plan, owned_items}
@@ -16,13 +16,18 @@ use Rattle.ld_rates.specs.RatesView.{RatesView}
 use Rattle.ld_rates.specs.Shows as rates
 use Rattle.ld_rates.specs.declared.rates_part.RatesPart.{RatesPart}
 use Rattle.ld_rates.proofs.TellLemmas.{told_applies}
-use Rattle.ld_executor.specs.Shows.{MayTell, Shows, ShowsOpening}
+use Rattle.ld_executor.specs.Shows.{MayTell, Shows, ShowsOpening, closed_of}
 use Rattle.ld_executor.specs.declared.executor_state.ExecutorState.{ExecutorState}
 use Rattle.ld_executor.specs.declared.executor_state.ExecutorState.TheVariants.{Rates}
 
 -- a scenario at an arrival rate
 pub at_rate : (state : ExecutorState) (rate : RatesView) (s : Scenario) → state ≡ Rates rate → Shows state s → rates.Shows rate s
 at_rate state rate s is shown = subst (λ (e : ExecutorState). Shows e s) is shown
+
+-- it is closed where its executor's state, which shows the same scenarios, is
+pub closed_at_rate : (state : ExecutorState) (rate : RatesView) (closed : Bool) → ((s : Scenario) → rates.Shows rate s → closed ≡ s.share.closed) → state ≡ Rates rate →
+    closed ≡ rate.closed → closed ≡ closed_of state
+closed_at_rate state rate closed shown is kept = kept ∙ sym (ap closed_of is)
 
 -- what a state may be told, its executor's state may be
 pub may_told : (state : ExecutorState) (rate : RatesView) (act : Act) → state ≡ Rates rate → MayTell state act → MayApply rate act
@@ -34,12 +39,12 @@ at_part : (o : Option Part) (part : Part) (P : Part → Type 0) → o ≡ Some p
 at_part o part P is holds = subst (λ (q : Option Part). IsSomeAnd q P) is holds
 
 -- a state that was made of what a plan tells of a scenario shows the scenario at its opening
-pub opened : (plan : Plan) (n : ℕ) (row : Row) (grace : ℕ) (owned : OwnedPart) (given : RatesPart) (new : RatesView) →
+pub opened : (plan : Plan) (n : ℕ) (row : Row) (grace : ℕ) (owned : OwnedPart) (given : RatesPart) (new : RatesView) → rates.ShowsOpening given new →
     IsSomeAnd (slice_get plan.parts n) (λ part. row ≡ row_of part) → IsSomeAnd (slice_get plan.parts n) (λ part. grace ≡ part.grace) →
     IsSomeAnd (slice_get plan.parts n) (λ part. executor_of owned ≡ part.executor) → IsTrue (is_distinct (owned_items (executor_of owned))) →
     owned ≡ plans.Rates given.pre given.max given.ticker → given.begin ≡ row.begin → given.end ≡ row.end → given.grace ≡ grace →
-    rates.ShowsOpening given new → ShowsOpening plan n (Rates new)
-opened plan n row grace owned given new row_is grace_is owned_is distinct own begin end given_grace opens part controls at =
+    ShowsOpening plan n (Rates new)
+opened plan n row grace owned given new opens row_is grace_is owned_is distinct own begin end given_grace part controls at =
     let r : row ≡ row_of part = at_part (slice_get plan.parts n) part (λ part. row ≡ row_of part) at row_is in
     let g : grace ≡ part.grace = at_part (slice_get plan.parts n) part (λ part. grace ≡ part.grace) at grace_is in
     let e : executor_of owned ≡ part.executor = at_part (slice_get plan.parts n) part (λ part. executor_of owned ≡ part.executor) at owned_is in

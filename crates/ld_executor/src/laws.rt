@@ -1,13 +1,15 @@
 // What holds of every scenario that a state shows.
 ghost use Rattle.std.specs.Prelude.{◌≡◌, false, IsTrue};
-ghost use Rattle.ld_executor.specs.Shows.{Shows};
+ghost use Rattle.ld_executor.specs.Shows.{Shows, closed_of};
 ghost use Rattle.ld_executor.specs.declared.executor_state.ExecutorState.{ExecutorState};
 ghost use Rattle.ld_machine.specs.Plan.{is_external};
 ghost use Rattle.ld_machine.specs.Scenario.{Scenario};
 ghost use Rattle.ld_machine.specs.Told.{users_fit};
 
-/// A shown scenario takes no more users at its begin than it may hold, and isn't externally controlled.
+/// A shown scenario takes no more users at its begin than it may hold, isn't externally controlled, and is closed where
+/// its state keeps that it is.
 pub fn shown()
     ensures users { (state : ExecutorState) (s : Scenario) → Shows state s → IsTrue (users_fit s.part.executor) }
     ensures external { (state : ExecutorState) (s : Scenario) → Shows state s → is_external s.part.executor ≡ false }
+    ensures closed { (state : ExecutorState) (s : Scenario) → Shows state s → closed_of state ≡ s.share.closed }
 {}

@@ -177,7 +177,8 @@ impl RatesState {
 
     /// Whether the scenario was closed.
     pub fn is_closed(&self) -> bool
-        ensures { (s : Scenario) → Shows self.now s → result ≡ s.share.closed }
+        ensures kept { result ≡ self.now.closed }
+        ensures shown { (s : Scenario) → Shows self.now s → result ≡ s.share.closed }
     {
         self.closed
     }

@@ -1,22 +1,20 @@
-use Rattle.std.proofs.Common.{◌∙◌, refl, sym}
-use Rattle.ld_base.specs.declared.act.Act.TheVariants.{Drop}
-use Rattle.ld_machine.specs.Moves.{AnswerArrival, DropArrival}
+use Rattle.std.proofs.Common.{◌∙◌, sym}
 use Rattle.ld_core.specs.CoreView.{plan_of, state_of}
-use Rattle.ld_core.proofs.AskLemmas.{entries_alone, answered_next, performed_act, refused_act, room_alone}
+use Rattle.ld_core.proofs.AskLemmas.{drop_may, drop_performed, drop_refused, entries_alone, room_alone}
 use Rattle.ld_core.proofs.machine.Core.act_drop.Goals as goal
 
 pub returns-in-Some : goal.returns-in-Some
 returns-in-Some c =
-    refused_act c.args.self.now c.args.thread c.args.reading (AnswerArrival c.args.scenario c.requires.first.1.0 c.args.item c.requires.first.0 DropArrival) c.in-Some.full c.requires.first.1.1
+    drop_refused c.args.self.now c.args.thread c.args.reading c.requires.first.0 c.args.scenario c.args.item c.requires.first.1.0 c.requires.first.1.1.0 c.in-Some.full c.requires.first.1.1.1
     (c.in-Some.ensures ∙ sym (entries_alone (plan_of c.args.self.now) (state_of c.args.self.now) c.args.scenario 1))
 
-pub note-requires-clause-may : goal.note-requires-clause-may
-note-requires-clause-may c = (refl, answered_next c.args.self.now c.args.thread c.args.reading c.args.scenario c.requires.first.1.0 c.args.item c.requires.first.0 DropArrival c.requires.first.1.1)
+pub note-requires-clause-told : goal.note-requires-clause-told
+note-requires-clause-told c = drop_may c.args.self.now c.args.thread c.args.reading c.requires.first.0 c.args.scenario c.args.item c.requires.first.1.0 c.requires.first.1.1.0 c.requires.first.1.1.1
 
 pub note-requires-clause-room : goal.note-requires-clause-room
 note-requires-clause-room c = room_alone c.args.self.now 1 0 c.in-None.ensures
 
 pub returns-in-None : goal.returns-in-None
 returns-in-None c =
-    performed_act c.args.self.now c.args.thread c.args.reading (AnswerArrival c.args.scenario c.requires.first.1.0 c.args.item c.requires.first.0 DropArrival) (Drop c.args.scenario c.args.item) c.note.new.self c.requires.first.1.1 refl
+    drop_performed c.args.self.now c.args.thread c.args.reading c.requires.first.0 c.args.scenario c.args.item c.requires.first.1.0 c.requires.first.1.1.0 c.note.new.self c.requires.first.1.1.1
     (c.in-None.ensures ∙ sym (entries_alone (plan_of c.args.self.now) (state_of c.args.self.now) c.args.scenario 1)) c.note.ensures.added

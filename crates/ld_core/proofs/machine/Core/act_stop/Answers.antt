@@ -1,8 +1,8 @@
-use Rattle.std.proofs.Common.{◌∙◌, refl, sym}
+use Rattle.std.proofs.Common.{[], ◌∙◌, refl, sym}
 use Rattle.ld_base.specs.declared.act.Act.TheVariants.{Stop}
 use Rattle.ld_machine.specs.Moves.{StopScenario}
 use Rattle.ld_core.specs.CoreView.{plan_of, state_of}
-use Rattle.ld_core.proofs.AskLemmas.{entries_alone, first_inside, performed_act, refused_act, room_alone}
+use Rattle.ld_core.proofs.AskLemmas.{entries_alone, first_may, performed_act, refused_act, room_alone}
 use Rattle.ld_core.proofs.machine.Core.act_stop.Goals as goal
 
 pub returns-in-Some : goal.returns-in-Some
@@ -10,8 +10,8 @@ returns-in-Some c =
     refused_act c.args.self.now c.args.thread c.args.reading (StopScenario c.args.scenario) c.in-Some.full c.requires.first
     (c.in-Some.ensures ∙ sym (entries_alone (plan_of c.args.self.now) (state_of c.args.self.now) c.args.scenario 1))
 
-pub note-requires-clause-may : goal.note-requires-clause-may
-note-requires-clause-may c = (refl, first_inside c.args.self.now c.args.thread c.args.reading (StopScenario c.args.scenario) c.requires.first)
+pub note-requires-clause-told : goal.note-requires-clause-told
+note-requires-clause-told c = first_may c.args.self.now c.args.thread c.args.reading (StopScenario c.args.scenario) (Stop c.args.scenario) [] c.requires.first refl refl
 
 pub note-requires-clause-room : goal.note-requires-clause-room
 note-requires-clause-room c = room_alone c.args.self.now 1 0 c.in-None.ensures

@@ -1,5 +1,5 @@
 use Rattle.std.proofs.Common.{sym, ◌∙◌}
-use Rattle.ld_core.proofs.WishLemmas.{below_inside, close_first, drop_first, drop_more_first, full_inside, grow_first, late_first, nothing_never, release_first, start_first, take_first, take_for_first, take_more, told_as}
+use Rattle.ld_core.proofs.WishLemmas.{below_inside, close_first, drop_first, drop_more_first, full_inside, grow_first, late_first, nothing_never, release_first, start_first, take_first, take_for_first, take_place, told_as}
 use Rattle.ld_core.proofs.machine.Core.act_wished.Goals as goal
 
 pub unreachable-requires : goal.unreachable-requires
@@ -11,8 +11,8 @@ act_release-requires c = record { first = release_first c.args.self.now c.args.r
 pub act_take-requires-clause-first : goal.act_take-requires-clause-first
 act_take-requires-clause-first c = take_first c.args.self.now c.args.reading c.args.scenario c.in-Take.slot (told_as c.args.self.now c.args.reading c.args.scenario c.args.wish _ c.in-Take.is c.requires.first)
 
-pub act_take-requires-clause-more : goal.act_take-requires-clause-more
-act_take-requires-clause-more c = take_more c.args.self.now c.args.reading c.args.scenario c.in-Take.slot (told_as c.args.self.now c.args.reading c.args.scenario c.args.wish _ c.in-Take.is c.requires.first)
+pub act_take-requires-clause-place : goal.act_take-requires-clause-place
+act_take-requires-clause-place c = take_place c.args.self.now c.args.reading c.args.scenario c.in-Take.slot (told_as c.args.self.now c.args.reading c.args.scenario c.args.wish _ c.in-Take.is c.requires.first)
 
 pub act_start-requires : goal.act_start-requires
 act_start-requires c = record { first = start_first c.args.self.now c.args.reading c.args.scenario c.in-Start.user c.in-Start.item c.in-Start.until c.in-Start.due (told_as c.args.self.now c.args.reading c.args.scenario c.args.wish _ c.in-Start.is c.requires.first) }

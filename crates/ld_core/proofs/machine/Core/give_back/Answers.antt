@@ -1,12 +1,13 @@
-use Rattle.std.proofs.Common.{◌+◌, ◌-◌, ◌≤◌, ◌∙◌, ap, ap₂, arith, length, set, subst, sym, ℕ}
+use Rattle.std.proofs.Common.{◌+◌, ◌-◌, ◌≤◌, ◌∙◌, ap, ap₂, arith, length, set, sym, ℕ}
+use Rattle.ld_base.specs.declared.act.Act.TheVariants.{Return}
 use Rattle.ld_machine.specs.Room.{script_room}
 use Rattle.ld_machine.specs.State.{Busy}
 use Rattle.ld_machine.proofs.BusyRoomLemmas.{return_room}
 use Rattle.ld_pool.specs.declared.user.User.TheVariants as users
 use Rattle.ld_core.proofs.BehindLemmas.{shows_returned, with_pool}
-use Rattle.ld_core.proofs.CoreLemmas.{core_sampled, few_samples, found_inside, index_kept, out_found, part_kept, return_room_in, samples_few, script_is, script_under_way, state_behind}
+use Rattle.ld_core.proofs.CoreLemmas.{core_sampled, few_samples, found_inside, index_kept, out_found, out_here, part_kept, return_room_in, return_told, samples_few, script_is, script_under_way, state_behind, tell_kept}
 use Rattle.ld_core.proofs.FirstLemmas.{kept_read}
-use Rattle.ld_core.proofs.ShownLemmas.{Finds, busy_once, user_found}
+use Rattle.ld_core.proofs.ShownLemmas.{busy_once, user_found}
 use Rattle.ld_core.proofs.machine.Core.give_back.Goals as goal
 
 pub overflow_sub-self : goal.overflow_sub-self
@@ -43,6 +44,15 @@ index_mut-state-requires c =
     let same = c.scenario-scenario.ensures in
     index_kept c.self.inside c.scenario-scenario.result (part_kept c.self.inside c.self.invariant c.scenario-scenario.result (omega arith))
 
+pub record-requires-clause-may : goal.record-requires-clause-may
+record-requires-clause-may c =
+    let n : ℕ = c.scenario-scenario.result in
+    let user : ℕ = c.user-user.result in
+    let f = out_here c.self.inside c.self.invariant c.args.thread c.args.stint n user c.scenario-scenario.ensures c.user-user.ensures ((rw (← c.self.view_is) at c.requires.may).out) in
+    tell_kept c.self.inside c.self.invariant n (Return n user c.item.result c.args.outcome c.args.tally) _
+    (kept_read c.self.inside.scenarios.items n _ (part_kept c.self.inside c.self.invariant n (found_inside c.self.inside c.self.invariant n user _ f)) c.index_mut-state.ensures.value)
+    (return_told c.self.inside c.self.invariant n user c.args.thread c.args.stint.item c.args.stint.until c.args.outcome c.args.tally f)
+
 pub record-requires-clause-room : goal.record-requires-clause-room
 record-requires-clause-room c =
     let may = rw (← c.self.view_is) at c.requires.may in
@@ -55,9 +65,7 @@ invariant_of-self c =
     let n : ℕ = c.scenario-scenario.result in
     let user : ℕ = c.user-user.result in
     let may = rw (← c.self.view_is) at c.requires.may in
-    let out = out_found c.self.inside c.self.invariant c.args.thread c.args.stint may.out in
-    let f = subst (λ (k : ℕ). Finds (state_behind c.self.inside) k user (Busy c.args.thread c.args.stint.item c.args.stint.until)) (sym c.scenario-scenario.ensures)
-    (subst (λ (k : ℕ). Finds (state_behind c.self.inside) c.args.stint.scenario k (Busy c.args.thread c.args.stint.item c.args.stint.until)) (sym c.user-user.ensures) out) in
+    let f = out_here c.self.inside c.self.invariant c.args.thread c.args.stint n user c.scenario-scenario.ensures c.user-user.ensures may.out in
     let below = part_kept c.self.inside c.self.invariant n (found_inside c.self.inside c.self.invariant n user _ f) in
     let same = ap (script_room plan) c.scenario-scenario.ensures in
     let few_here = few_samples plan c.args.stint.scenario c.args.tally may.fits in
@@ -72,4 +80,5 @@ invariant_of-self c =
     (ap (λ (m : ℕ). c.self.inside.samples + m) c.len.ensures.count) (omega (arith, less, script, counted))
     (with_pool _ pool_is
     (shows_returned c.self.invariant.shows (length c.self.inside.history.entries + 1) c.args.thread c.args.reading n user c.item.result c.args.outcome c.args.tally
-    c.args.thread c.args.stint.item c.args.stint.until _ _ f (kept_read c.self.inside.scenarios.items n _ below c.index_mut-state.ensures.value) c.record.ensures.follows few))
+    c.args.thread c.args.stint.item c.args.stint.until _ _ f (kept_read c.self.inside.scenarios.items n _ below c.index_mut-state.ensures.value) c.record.ensures.follows
+    (return_told c.self.inside c.self.invariant n user c.args.thread c.args.stint.item c.args.stint.until c.args.outcome c.args.tally f) few))

@@ -16,7 +16,7 @@ returns-in-Nothing-clause-none c =
     none_told c.self.inside c.self.invariant c.args.self.now c.self.view_is c.args.reading c.args.scenario c.index-state.result.now
     (kept_read c.self.inside.scenarios.items c.args.scenario c.index-state.result.now
     (inside_of_plan c.self.inside c.self.invariant c.args.self.now c.self.view_is c.args.scenario c.requires.of_plan) c.index-state.ensures)
-    c.args.free c.if-may_stop.ensures c.requires.free c.in-Nothing.ensures.first
+    c.args.free c.if-may_stop.ensures c.requires.free c.in-Nothing.ensures
 
 pub returns-in_default : goal.returns-in_default
 returns-in_default c =
@@ -24,6 +24,6 @@ returns-in_default c =
       tells = wish_told c.self.inside c.self.invariant c.args.self.now c.self.view_is c.args.reading c.args.scenario c.index-state.result.now
           (kept_read c.self.inside.scenarios.items c.args.scenario c.index-state.result.now
           (inside_of_plan c.self.inside c.self.invariant c.args.self.now c.self.view_is c.args.scenario c.requires.of_plan) c.index-state.ensures)
-          c.args.free c.next_act.result c.if-may_stop.ensures c.requires.free c.next_act.ensures.first c.next_act.ensures.applies c.in_default.not-Nothing;
+          c.args.free c.has_arrivals.result c.next_act.result c.if-may_stop.ensures c.requires.free c.next_act.ensures c.has_arrivals.ensures c.in_default.not-Nothing;
       none = tt;
     }
