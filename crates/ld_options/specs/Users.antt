@@ -1,5 +1,5 @@
 -- The numbers of users of a scenario.
-use Rattle.std.specs.Prelude.{◌≡◌, ℕ, List, Option, Some, None, Result, Ok, Err, codes, nat_lt, if◌then◌else◌}
+use Rattle.std.specs.Prelude.{◌≡◌, ℕ, List, Some, None, Result, Ok, Err, codes, nat_lt, if◌then◌else◌}
 use Rattle.ld_json.specs.Node.{NodeView, as_whole}
 use Rattle.ld_json.specs.Pointer.{member_path}
 use Rattle.ld_options.specs.Faults.{Refused, and_then}
