@@ -3,11 +3,13 @@ use Rattle.std.proofs.Common.{◌≡◌, ◌<◌, ◌^◌, ◌∷◌, [], ◌∙
 use Rattle.std.specs.Prelude.{codes, Result, if◌then◌else◌, nat_le, nat_lt, ◌&&◌, slice_get}
 use Rattle.std.specs.List.{AllZip}
 use Rattle.ld_json.specs.Node.{NodeView}
+use Rattle.ld_options.specs.ConstantArrivals.{AreArrivals, rates}
 use Rattle.ld_options.specs.Document.{AreOptionsOf, root_of}
-use Rattle.ld_options.specs.Executors.{AreArrivals, IsExecutor, greatest, pre_allocated, planned_users, rates, users}
+use Rattle.ld_options.specs.Executors.{IsExecutor}
 use Rattle.ld_options.specs.Fields.{given, number, ranged}
 use Rattle.ld_options.specs.Scenarios.{IsScenarioOf}
 use Rattle.ld_options.specs.Times.{IsSpan, IsTime, span_text}
+use Rattle.ld_options.specs.Users.{greatest, planned_users, pre_allocated, users}
 use Rattle.ld_options.specs.declared.executor.Executor.{Executor}
 use Rattle.ld_options.specs.declared.executor.Executor.TheVariants as executors
 use Rattle.ld_options.specs.declared.fault.OptionsFault.{OptionsFault}

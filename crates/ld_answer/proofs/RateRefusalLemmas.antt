@@ -16,13 +16,15 @@ use Rattle.ld_json.specs.Node.{NodeView}
 use Rattle.ld_json.specs.Pointer.{member_path}
 use Rattle.ld_json.specs.Rules.{Accepts, FirstOf, Then}
 use Rattle.ld_json.specs.declared.fault.JsonFault.{JsonFault}
+use Rattle.ld_options.specs.ConstantArrivals.{RefusesArrivals, rates}
 use Rattle.ld_options.specs.Document.{IsRefusal, OfScripts, RefusesDocument, RefusesOptions, RefusesRoot, counted, object_of, options_in, root_of, scenario_counts, script_counts, scripts_in}
-use Rattle.ld_options.specs.Executors.{RefusesArrivals, RefusesGreatest, durations, greatest, kind_of, planned_users, pre_allocated, rates, units, users}
+use Rattle.ld_options.specs.Executors.{kind_of}
 use Rattle.ld_options.specs.Faults.{Refused, of_node}
 use Rattle.ld_options.specs.Fields.{given, number, ranged}
 use Rattle.ld_options.specs.Ranges.{longest}
 use Rattle.ld_options.specs.Scenarios.{HasBadName, IsLost, RefusesFields, RefusesKnown, RefusesScenario, RefusesScript, spans}
-use Rattle.ld_options.specs.Times.{RefusesTime}
+use Rattle.ld_options.specs.Times.{RefusesTime, durations, units}
+use Rattle.ld_options.specs.Users.{RefusesGreatest, greatest, planned_users, pre_allocated, users}
 use Rattle.ld_options.specs.declared.fault.OptionsFault.{OptionsFault}
 use Rattle.ld_options.specs.declared.fault.OptionsFault.TheVariants as faults
 use Rattle.ld_script.specs.Name.{IsName, IsNameByte}

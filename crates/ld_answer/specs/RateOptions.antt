@@ -1,8 +1,10 @@
 -- The options that the test by options stands for, and which of its numbers are refused.
 use Rattle.std.specs.Prelude.{◌≡◌, ◌<◌, ◌++◌, ℕ, List, [], ◌∷◌, codes}
 use Rattle.ld_json.specs.Rules.{Then}
-use Rattle.ld_options.specs.Executors.{durations, planned_users, rates, units, users}
+use Rattle.ld_options.specs.ConstantArrivals.{rates}
 use Rattle.ld_options.specs.Ranges.{IsWithin}
+use Rattle.ld_options.specs.Times.{durations, units}
+use Rattle.ld_options.specs.Users.{planned_users, users}
 use Rattle.ld_options.specs.declared.executor.Executor.TheVariants.{ConstantArrivals}
 use Rattle.ld_options.specs.declared.fault.OptionsFault.{OptionsFault}
 use Rattle.ld_options.specs.declared.fault.OptionsFault.TheVariants as faults

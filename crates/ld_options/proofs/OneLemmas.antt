@@ -9,12 +9,14 @@ use Rattle.ld_json.specs.Node.{NodeView}
 use Rattle.ld_json.specs.Pointer.{member_path}
 use Rattle.serde_json.specs.Data.{Data}
 use Rattle.ld_options.specs.Document.{AreOptions, AreOptionsOf, IsRefusal, OfScripts, RefusesDocument, root_of, script_names, scripts_in, scenarios_in}
-use Rattle.ld_options.specs.Executors.{IsExecutor, RefusesArrivals, RefusesExecutor, RefusesGreatest, greatest}
+use Rattle.ld_options.specs.ConstantArrivals.{RefusesArrivals}
+use Rattle.ld_options.specs.Executors.{IsExecutor, RefusesExecutor}
 use Rattle.ld_options.specs.Faults.{Refused, of_script}
 use Rattle.ld_options.specs.Fields.{given}
 use Rattle.ld_options.specs.Ranges.{most_scenarios}
 use Rattle.ld_options.specs.Scenarios.{IsLost, IsScenarioOf, IsScript, RefusesFields, RefusesKnown, RefusesScenario, RefusesScript}
 use Rattle.ld_options.specs.Times.{IsSpan, IsTime, RefusesSpan, RefusesTime, span_text}
+use Rattle.ld_options.specs.Users.{RefusesGreatest, greatest}
 use Rattle.ld_options.specs.declared.executor.Executor.{Executor}
 use Rattle.ld_options.specs.declared.executor.Executor.TheVariants as executors
 use Rattle.ld_options.specs.declared.fault.OptionsFault.{OptionsFault}

@@ -4,10 +4,11 @@ use Rattle.std.specs.Prelude.{Result, Ok, Err, IfErr}
 use Rattle.std.specs.Result.{IsErr, IsErrAnd}
 use Rattle.ld_json.specs.Node.{NodeView}
 use Rattle.ld_json.specs.Rules.{Accepts}
-use Rattle.ld_options.specs.Executors.{RefusesGreatest, kind_of, greatest, pre_allocated}
+use Rattle.ld_options.specs.Executors.{kind_of}
 use Rattle.ld_json.specs.declared.fault.JsonFault.{JsonFault}
 use Rattle.ld_options.specs.Faults.{Refused, of_node}
 use Rattle.ld_options.specs.Scenarios.{RefusesFields, RefusesKnown}
+use Rattle.ld_options.specs.Users.{RefusesGreatest, greatest, pre_allocated}
 use Rattle.ld_options.specs.declared.fault.OptionsFault.{OptionsFault}
 use Rattle.ld_options.specs.declared.kind.Kind.{Kind}
 use Rattle.ld_options.specs.declared.kind.Kind.TheVariants.{ConstantArrivals}

@@ -7,12 +7,19 @@ use Rattle.ld_num.specs.Duration.{HaveLength, IsDuration, IsDurationRefusal, Ter
 use Rattle.ld_num.specs.declared.fault.NumFault.{NumFault}
 use Rattle.ld_options.specs.Faults.{Refused}
 use Rattle.ld_options.specs.Fields.{given}
-use Rattle.ld_options.specs.Ranges.{IsWithin}
+use Rattle.ld_options.specs.Ranges.{IsWithin, longest, longest_unit}
 use Rattle.ld_options.specs.declared.fault.OptionsFault.{OptionsFault}
 use Rattle.ld_options.specs.declared.fault.OptionsFault.TheVariants as faults
 use Rattle.ld_options.specs.declared.range.Range.{Range}
 use Rattle.serde_json.specs.Data.{Data}
 use Rattle.serde_json.specs.Find.{as_str}
+
+-- the ranges of units of time, and of durations that aren't empty
+abbrev pub units : Range
+units = record { least = 1; most = longest_unit }
+
+abbrev pub durations : Range
+durations = record { least = 1; most = longest }
 
 -- the text of a span: a text, or the digits of a whole number
 abbrev pub span_text : Data → Option (List ℕ)

@@ -1,7 +1,7 @@
 //! Options: what a test asks for.
 #![tactic(auto)]
 
-mod arrivals;
+mod constant_arrivals;
 mod document;
 mod executor;
 mod fault;
@@ -14,6 +14,7 @@ mod range;
 mod scenario;
 mod scenarios;
 mod times;
+mod users;
 
 pub use executor::Executor;
 pub use fault::OptionsFault;

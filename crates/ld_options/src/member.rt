@@ -6,7 +6,7 @@ ghost use Rattle.ld_options.specs.Ranges.{IsInRange, IsScenarioInRange};
 ghost use Rattle.ld_options.specs.Scenarios.{HasBadName, IsScenarioOf, IsScript, RefusesFields, RefusesScenario, RefusesScript};
 ghost use Rattle.ld_options.specs.declared.fault.OptionsFault.TheVariants.{Memory};
 
-use crate::arrivals::arrivals;
+use crate::constant_arrivals::constant_arrivals;
 use crate::executor::Executor;
 use crate::fault::OptionsFault;
 use crate::fields::text_given;
@@ -104,6 +104,6 @@ fn executor(alloc: Global, kind: Kind, node: &Node<'_>) -> Result<Executor, Opti
     ensures refused { IfErr result (λ f. f ≢ Memory → RefusesExecutor kind node.now f) }
 {
     match kind {
-        Kind::ConstantArrivals => arrivals(alloc, node),
+        Kind::ConstantArrivals => constant_arrivals(alloc, node),
     }
 }

@@ -27,12 +27,13 @@ impl Scenario {
         ensures { IfOk result (λ s. s ≡ self.now) }
     {
         let name = Text::of(Vec::from_slice(alloc, self.name.as_slice())?);
+        let executor = self.executor.copy(alloc)?;
         Ok(Scenario {
             name,
             begin: self.begin,
             grace: self.grace,
             script: self.script,
-            executor: self.executor,
+            executor,
         })
     }
 }

@@ -16,6 +16,18 @@ use ld_json::{JsonFault, Node};
 use ld_num::read_duration;
 use std::alloc::Global;
 
+/// The range of a unit of time, in nanoseconds: up to a day.
+pub(crate) const UNITS: Range = Range {
+    least: 1,
+    most: 86_400_000_000_000,
+};
+
+/// The range of a duration, in nanoseconds: up to 30 days.
+pub(crate) const DURATIONS: Range = Range {
+    least: 1,
+    most: 2_592_000_000_000_000,
+};
+
 // The span of time of the field of this name, in its range. Without a default it is needed.
 pub(crate) fn time(
     alloc: Global,

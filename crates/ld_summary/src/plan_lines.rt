@@ -122,7 +122,7 @@ fn put_row(scenario: &Scenario, row: Row, into: &mut Vec<u8>) -> Result<(), Base
         &[
             Word::Text(b"scenario"),
             Word::Text(scenario.name.as_slice()),
-            Word::Text(executor_name(scenario.executor)),
+            Word::Text(executor_name(&scenario.executor)),
             Word::Text(b"begin"),
             Word::Number(row.begin),
             Word::Text(b"end"),
@@ -140,8 +140,8 @@ fn put_row(scenario: &Scenario, row: Row, into: &mut Vec<u8>) -> Result<(), Base
 }
 
 // An executor, as k6 names it.
-fn executor_name(executor: Executor) -> &'static [u8]
-    ensures { result.now ≡ executor_name executor }
+fn executor_name(executor: &Executor) -> &'static [u8]
+    ensures { result.now ≡ executor_name executor.now }
 {
     match executor {
         Executor::ConstantArrivals {

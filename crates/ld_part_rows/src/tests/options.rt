@@ -230,7 +230,7 @@ fn filled(alloc: Global, text: &str, scenario: &str) -> Result<String, Fail> {
 }
 
 // The numbers of an executor.
-fn executor_text(alloc: Global, executor: Executor) -> Result<String, Fail> {
+fn executor_text(alloc: Global, executor: &Executor) -> Result<String, Fail> {
     let Executor::ConstantArrivals {
         rate,
         unit,
@@ -252,7 +252,7 @@ fn scenario_told(alloc: Global, scenario: &Scenario, scripts: u16) -> Result<Str
         &mut line,
         format!(in alloc; "script {script} of {scripts}")?,
     )?;
-    add(&mut line, executor_text(alloc, scenario.executor)?)?;
+    add(&mut line, executor_text(alloc, &scenario.executor)?)?;
     Ok(line)
 }
 

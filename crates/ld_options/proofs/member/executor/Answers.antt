@@ -8,8 +8,8 @@ use Rattle.ld_options.proofs.member.executor.Goals as goal
 
 pub returns-clause-accepted : goal.returns-clause-accepted
 returns-clause-accepted c =
-    each_kind (λ kind. IfOk c.arrivals.result (λ _. Accepts (RefusesExecutor kind c.args.node.now))) c.args.kind c.arrivals.ensures.accepted
+    each_kind (λ kind. IfOk c.constant_arrivals.result (λ _. Accepts (RefusesExecutor kind c.args.node.now))) c.args.kind c.constant_arrivals.ensures.accepted
 
 pub returns-clause-refused : goal.returns-clause-refused
 returns-clause-refused c =
-    each_kind (λ kind. IfErr c.arrivals.result (λ f. f ≢ Memory → RefusesExecutor kind c.args.node.now f)) c.args.kind c.arrivals.ensures.refused
+    each_kind (λ kind. IfErr c.constant_arrivals.result (λ f. f ≢ Memory → RefusesExecutor kind c.args.node.now f)) c.args.kind c.constant_arrivals.ensures.refused

@@ -2,7 +2,7 @@
 use Rattle.std.proofs.Common.{inl, inr}
 use Rattle.ld_json.proofs.RulesLemmas.{then_accepts}
 use Rattle.ld_options.proofs.RefusalLemmas.{greatest_accepts, handed_on, ok_accepts}
-use Rattle.ld_options.proofs.arrivals.arrivals.Goals as goal
+use Rattle.ld_options.proofs.constant_arrivals.constant_arrivals.Goals as goal
 
 pub returns-in_err-unit-clause-refused : goal.returns-in_err-unit-clause-refused
 returns-in_err-unit-clause-refused c =

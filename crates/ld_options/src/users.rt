@@ -1,0 +1,36 @@
+// The numbers of users of a scenario.
+ghost use Rattle.std.specs.Prelude.{◌≤◌, IfOk};
+ghost use Rattle.ld_options.specs.Faults.{Answers};
+ghost use Rattle.ld_options.specs.Ranges.{IsWithin, most_users};
+ghost use Rattle.ld_options.specs.Users.{greatest as greatest_of};
+
+use crate::fault::OptionsFault;
+use crate::fields::{ranged, whole_given};
+use crate::range::Range;
+use ld_json::Node;
+use std::alloc::Global;
+
+/// The range of the users that are made before the scenario begins.
+pub(crate) const PLANNED_USERS: Range = Range {
+    least: 0,
+    most: 1_000,
+};
+
+/// The range of the greatest number of users.
+pub(crate) const USERS: Range = Range {
+    least: 1,
+    most: 1_000,
+};
+
+// The greatest number of users, which isn't below those that are made before.
+pub(crate) fn greatest(alloc: Global, node: &Node<'_>, pre: u64) -> Result<u64, OptionsFault>
+    ensures answer { Answers result (greatest_of pre node.now) }
+    ensures within { IfOk result (λ max. IsWithin 1 most_users max) }
+    ensures above { IfOk result (λ max. pre ≤ max) }
+{
+    let max = whole_given(alloc, node, "maxVUs", Some(pre))?;
+    if max < pre {
+        return Err(OptionsFault::MaxBelowPre(node.path_of(alloc, "maxVUs")?));
+    }
+    ranged(alloc, node, "maxVUs", USERS, max)
+}
