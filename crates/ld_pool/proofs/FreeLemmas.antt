@@ -2,9 +2,9 @@
 use Rattle.std.specs.Prelude.{◌≡◌, ◌≢◌, ◌+◌, ◌-◌, ◌<◌, ◌≤◌, ℕ, zero, suc, Bool, true, false, cond, List, [], ◌∷◌, ◌++◌, Option, Some, None, IfNone, IfSome, length, filter, replicate, slice_get}
 use Rattle.std.specs.List.{range_with_len}
 use Rattle.std.specs.Option.{option_map_or}
-use Rattle.std.proofs.Common.{arith, ap, inl, inr, length-set, refl, set, subst, sym, ◌∙◌}
+use Rattle.std.proofs.Common.{arith, ap, inl, inr, length-set, refl, subst, sym, ◌∙◌}
 use Rattle.std.proofs.lemmas.Bool.{cases_eq, lt-ltb}
-use Rattle.std.proofs.lemmas.List.{get_or-replicate, get_or-set_same, length-append, length-replicate}
+use Rattle.std.proofs.lemmas.List.{get_or-replicate, length-append, length-replicate}
 use Rattle.std.proofs.lemmas.List.Elements.{All-head, filter_passes}
 use Rattle.std.proofs.lemmas.Option.{slice_get-get_or}
 use Rattle.ld_set.specs.SetView.{is_among, with_number, without_number}
@@ -12,7 +12,7 @@ use Rattle.ld_set.proofs.NumberLemmas.{among_kept, kept_agree, kept_all, with_nu
 use Rattle.ld_pool.specs.Users.{busy_count, free_at, free_count, free_numbers, is_busy, is_free, user_at, with_user}
 use Rattle.ld_pool.specs.declared.user.User.{User}
 use Rattle.ld_pool.specs.declared.user.User.TheVariants.{Free}
-use Rattle.ld_pool.proofs.UserLemmas.{count-cons, free_is, user_at_place}
+use Rattle.ld_pool.proofs.UserLemmas.{count-cons, free_is, user_at_place, user_changed, user_other}
 
 -- ---- the numbers of a list of users
 
@@ -84,33 +84,15 @@ none_found users (Some number) is = tt
 
 -- ---- where one user changes
 
--- the other users stay as they were
-other_user : (users : List User) (i j : ℕ) (after : User) → j ≢ i → slice_get (set users i after) j ≡ slice_get users j
-other_user [] i j after other = refl
-other_user (user ∷ users) zero zero after other = absurd (other refl)
-other_user (user ∷ users) zero (suc j) after other = refl
-other_user (user ∷ users) (suc i) zero after other = refl
-other_user (user ∷ users) (suc i) (suc j) after other = other_user users i j after (λ e. other (ap suc e))
-
+-- the other users are as free as they were
 other_same : (users : List User) (number other : ℕ) (after : User) → 0 < number → other ≢ number →
     free_at (with_user users number after) other ≡ free_at users other
-other_same users number zero after some apart = refl
-other_same users number (suc index) after some apart =
-    ap passes (other_user users (number - 1) index after (λ e. apart (omega (arith, e))))
+other_same users number other after some apart = ap passes (user_other users number other after some apart)
 
 -- and the changed one is what it is then
-changed_at : (users : List User) (index : ℕ) (after : User) → index < length users → slice_get (set users index after) index ≡ Some after
-changed_at users index after within =
-    slice_get-get_or (set users index after) index after (omega (arith, length-set users index after))
-    ∙ ap Some (get_or-set_same users index after after within)
-
 changed_is : (users : List User) (number : ℕ) (after : User) → 0 < number → number - 1 < length users →
     free_at (with_user users number after) number ≡ is_free after
-changed_is users zero after some within = absurd (omega arith)
-changed_is users (suc index) after some within =
-    let e : suc index - 1 ≡ index = omega arith in
-    let at : user_at (with_user users (suc index) after) (suc index) ≡ Some after = rw e (changed_at users index after (omega arith)) in
-    ap passes at
+changed_is users number after some within = ap passes (user_changed users number after some within)
 
 -- what is left of the numbers
 module _ (users : List User) (number : ℕ) (before after : User) (is : user_at users number ≡ Some before) where

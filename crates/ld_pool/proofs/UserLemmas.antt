@@ -1,7 +1,7 @@
 -- Users by their numbers, and how many are of a kind.
-use Rattle.std.specs.Prelude.{◌≡◌, ◌≢◌, ◌+◌, ◌-◌, ◌<◌, ◌≤◌, ℕ, zero, suc, Bool, true, cond, List, [], ◌∷◌, Option, Some, None, IsSomeAnd, IsTrue, length, count_by}
-use Rattle.std.proofs.Common.{arith, get_or, refl}
-use Rattle.std.proofs.lemmas.Option.{slice_get_within, get_or_from_slice_get}
+use Rattle.std.specs.Prelude.{◌≡◌, ◌≢◌, ◌+◌, ◌-◌, ◌<◌, ℕ, zero, suc, Bool, true, cond, List, [], ◌∷◌, Option, Some, None, IsSomeAnd, IsTrue, length, count_by, slice_get}
+use Rattle.std.proofs.Common.{arith, ap, get_or, get_or-set_same, length-set, refl, set, ◌∙◌}
+use Rattle.std.proofs.lemmas.Option.{slice_get-get_or, slice_get_within, get_or_from_slice_get}
 use Rattle.std.proofs.lemmas.List.Sums.{sum_by-set, sum_by-cons}
 use Rattle.ld_pool.specs.Users.{busy_count, free_count, idle_count, is_busy, is_free, is_idle, user_at, with_user}
 use Rattle.ld_pool.specs.declared.busy.Busy as playing
@@ -15,6 +15,31 @@ user_at_place users zero user is = absurd (cc is)
 user_at_place users (suc index) user is =
     let e : suc index - 1 ≡ index = omega arith in
     rw e (omega arith, slice_get_within users index user is, get_or_from_slice_get users index user user is)
+
+-- where one user changes, the others stay as they were
+stays_at : (users : List User) (i j : ℕ) (after : User) → j ≢ i → slice_get (set users i after) j ≡ slice_get users j
+stays_at [] i j after other = refl
+stays_at (user ∷ users) zero zero after other = absurd (other refl)
+stays_at (user ∷ users) zero (suc j) after other = refl
+stays_at (user ∷ users) (suc i) zero after other = refl
+stays_at (user ∷ users) (suc i) (suc j) after other = stays_at users i j after (λ e. other (ap suc e))
+
+pub user_other : (users : List User) (number other : ℕ) (after : User) → 0 < number → other ≢ number →
+    user_at (with_user users number after) other ≡ user_at users other
+user_other users number zero after some apart = refl
+user_other users number (suc index) after some apart = stays_at users (number - 1) index after (λ e. apart (omega (arith, e)))
+
+-- and the changed one is what it is then
+changed_at : (users : List User) (index : ℕ) (after : User) → index < length users → slice_get (set users index after) index ≡ Some after
+changed_at users index after within =
+    slice_get-get_or (set users index after) index after (omega (arith, length-set users index after))
+    ∙ ap Some (get_or-set_same users index after after within)
+
+pub user_changed : (users : List User) (number : ℕ) (after : User) → 0 < number → number - 1 < length users →
+    user_at (with_user users number after) number ≡ Some after
+user_changed users zero after some within = absurd (omega arith)
+user_changed users (suc index) after some within =
+    let e : suc index - 1 ≡ index = omega arith in rw e (changed_at users index after (omega arith))
 
 -- a change of one user counts it as what it is then
 pub count-with_user : (p : User → Bool) (users : List User) (number : ℕ) (before after : User) → user_at users number ≡ Some before →

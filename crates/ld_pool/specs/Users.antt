@@ -1,7 +1,7 @@
 -- The users of a pool: what each of them is and plays, and how many are of one kind.
 use Rattle.std.specs.Prelude.{◌-◌, ◌==◌, ◌&&◌, ℕ, zero, suc, Bool, true, false, List, Option, Some, None, count_by, filter, filter_map, length, slice_get, slice_set}
 use Rattle.std.specs.List.{range_with_len}
-use Rattle.std.specs.Option.{option_map_or}
+use Rattle.std.specs.Option.{option_and_then, option_map_or}
 use Rattle.ld_base.specs.Stint.{StintView}
 use Rattle.ld_pool.specs.declared.busy.Busy as playing
 use Rattle.ld_pool.specs.declared.user.User.{User}
@@ -78,6 +78,10 @@ idle_count users = count_by is_idle users
 
 abbrev pub busy_count : List User → ℕ
 busy_count users = count_by is_busy users
+
+-- until when the iteration of the user of a number may last
+abbrev pub until_at : List User → ℕ → Option ℕ
+until_at users number = option_and_then until_of (user_at users number)
 
 -- until when the iterations of the busy users may last
 abbrev pub untils_of : List User → List ℕ

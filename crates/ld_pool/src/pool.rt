@@ -1,4 +1,4 @@
-ghost use Rattle.std.specs.Prelude.{◌≡◌, ◌≢◌, ◌+◌, ◌<◌, ◌≤◌, ◌++◌, ◌∷◌, ℕ, [], false, IfNone, IfOk, IfSome, IsSomeAnd, IsTrue, SomeIff, filter, length, min, nat_lt, replicate};
+ghost use Rattle.std.specs.Prelude.{◌≡◌, ◌≢◌, ◌+◌, ◌<◌, ◌≤◌, ◌++◌, ◌∷◌, ℕ, [], false, IfNone, IfOk, IfSome, IsSomeAnd, IsTrue, SomeIff, filter, length, nat_lt, replicate};
 ghost use Rattle.std.specs.List.{range_with_len};
 ghost use Rattle.std.specs.Option.{option_and_then, option_map_or};
 ghost use Rattle.ld_base.specs.Stint.{stint_of};
@@ -9,7 +9,7 @@ use crate::busy::Busy;
 use crate::fault::PoolFault;
 use crate::user::User;
 use ld_base::Stint;
-use ld_set::NumberSet;
+use ld_set::{MomentTable, NumberSet};
 use std::alloc::{AllocError, Global};
 use std::marker::Model;
 
@@ -19,6 +19,9 @@ pub struct Pool {
     users: Vec<User>,
     // The numbers of the free users, so that one is found at one look.
     free: NumberSet,
+    // The `until` of each busy user by its number, so that the least above a reading is found without a
+    // look at each user.
+    untils: MomentTable,
     busy: u32,
     limit: u32,
 }
@@ -31,7 +34,7 @@ impl Model for Pool {
 
     ghost view = { λ p. record { users = p.users.items; limit = p.limit } };
 
-    ghost invariant = { λ p. IsKept p.users.items p.free p.busy p.limit (vec_capacity p.users) };
+    ghost invariant = { λ p. IsKept p.users.items p.free p.untils p.busy p.limit (vec_capacity p.users) };
 }
 
 impl Pool {
@@ -46,9 +49,11 @@ impl Pool {
         let mut users = Vec::with_capacity(alloc, limit as usize)?;
         users.resize(made as usize, User::Free)?;
         let free = first_numbers(alloc, made, limit)?;
+        let untils = MomentTable::new(alloc, limit + 1)?;
         Ok(Pool {
             users,
             free,
+            untils,
             busy: 0,
             limit,
         })
@@ -113,6 +118,7 @@ impl Pool {
         };
         self.busy += 1;
         self.users[user as usize - 1] = User::Busy(busy);
+        self.untils.set(user, Some(until));
         Stint::new(scenario, user, item, until)
     }
 
@@ -122,8 +128,10 @@ impl Pool {
         ensures { self.new ≡ record self.old { users = with_user self.old.users stint.user (User.Idle stint.scenario) } }
     {
         let scenario = stint.scenario();
+        let user = stint.user();
         self.busy -= 1;
-        self.users[stint.user() as usize - 1] = User::Idle { scenario };
+        self.users[user as usize - 1] = User::Idle { scenario };
+        self.untils.set(user, None);
         stint.spend();
     }
 
@@ -184,19 +192,11 @@ impl Pool {
     }
 
     /// The least moment above the reading until which a busy user's iteration may last, if there is
-    /// one. It is looked for among all users.
+    /// one.
     pub fn next_until(&self, reading: u64) -> Option<u64>
         ensures { result ≡ least_of (filter (nat_lt reading) (untils_of self.now.users)) }
     {
-        let mut least = None;
-        for user in &self.users {
-            if let User::Busy(busy) = user {
-                if busy.until > reading {
-                    least = Some(lesser(least, busy.until));
-                }
-            }
-        }
-        least
+        self.untils.least_above(reading)
     }
 
     // The user of a number, or None where none of this number was made.
@@ -219,14 +219,4 @@ fn first_numbers(alloc: Global, made: u32, limit: u32) -> Result<NumberSet, Allo
         numbers.insert(before + 1);
     }
     Ok(numbers)
-}
-
-// The lesser of a moment, if there is one, and another.
-fn lesser(moment: Option<u64>, other: u64) -> u64
-    ensures { result ≡ option_map_or (min other) moment other }
-{
-    match moment {
-        Some(moment) => moment.min(other),
-        None => other,
-    }
 }

@@ -13,5 +13,5 @@ pub invariant_of-self : goal.invariant_of-self
 invariant_of-self c =
     let busy = rw (← c.self.view_is) at c.requires.1 in
     let some = some_busy c.self.inside.users.items c.args.stint.user _ busy in
-    rw c.user.ensures
-    (kept-same _ _ _ _ _ c.self.inside.free _ _ _ _ c.self.invariant busy refl (omega (arith, c.self.invariant.playing)))
+    rw (c.set.ensures, c.user-user.ensures)
+    (kept-same _ _ _ _ _ c.self.inside.free _ _ _ _ _ c.self.invariant busy refl (omega (arith, c.self.invariant.playing)))

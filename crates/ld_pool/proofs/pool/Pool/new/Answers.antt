@@ -8,5 +8,5 @@ pub invariant_of-result : goal.invariant_of-result
 invariant_of-result c =
     let all : c.resize.new.self.items ≡ replicate c.args.made Free =
     search (rules, c.in_ok-resize.ensures.items, c.in_ok-users.ensures.items, c.in_ok-users.ensures.len) in
-    kept-new _ _ _ _ _ c.requires.within c.requires.few
-    (omega (arith, c.in_ok-users.ensures, c.resize.ensures, c.in_ok-resize.ensures)) all c.in_ok-free.ensures
+    kept-new _ _ _ _ _ _ c.requires.within c.requires.few
+    (omega (arith, c.in_ok-users.ensures, c.resize.ensures, c.in_ok-resize.ensures)) all c.in_ok-free.ensures c.in_ok-untils.ensures.none

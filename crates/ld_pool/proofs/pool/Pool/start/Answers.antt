@@ -10,4 +10,6 @@ overflow_add-self c =
     omega (arith, c.self.invariant.playing, c.self.invariant.room.within, c.self.invariant.few)
 
 pub invariant_of-self : goal.invariant_of-self
-invariant_of-self c = kept-same _ _ _ _ _ c.self.inside.free _ _ _ _ c.self.invariant (rw (← c.self.view_is) at c.requires) refl (omega arith)
+invariant_of-self c =
+    rw c.set.ensures
+    (kept-same _ _ _ _ _ c.self.inside.free _ _ _ _ _ c.self.invariant (rw (← c.self.view_is) at c.requires) refl (omega arith))
