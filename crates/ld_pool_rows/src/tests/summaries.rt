@@ -64,7 +64,7 @@ struct Printed;
 impl Call for Printed {
     fn answer(alloc: Global, given: &str) -> Result<String, Fail> {
         let (kind, words) = parts(given, " ");
-        let plan = plan_of(alloc, &mut words.split_whitespace())?;
+        let plan = plan_of(alloc, words)?;
         plan_shown(alloc, &plan, matches!(kind, "listed"))
     }
 }
