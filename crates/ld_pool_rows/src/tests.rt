@@ -11,4 +11,5 @@ mod scenarios;
 mod summaries;
 mod table;
 mod threads;
+mod together;
 mod users;
