@@ -8,6 +8,7 @@ mod plans;
 mod rehearsals;
 mod replies;
 mod scenarios;
+mod stops;
 mod summaries;
 mod table;
 mod threads;
