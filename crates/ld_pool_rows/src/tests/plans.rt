@@ -25,8 +25,8 @@ struct Rates {
     most: u32,
 }
 
-/// The plan that a text tells: of the scenario `main` how many arrivals a second, the users that are made and those that
-/// there may be; the segment, the limit on entries, and the scenario's other fields. Behind a stroke each, further
+/// The plan that a text tells: of the scenario `main` how many arrivals a second, the users that are made and those
+/// that there may be; the segment, the limit on entries, and the scenario's other fields. Behind a stroke each, further
 /// scenarios follow: their names, the same numbers, and their other fields.
 pub fn plan_of(alloc: Global, text: &str) -> Result<Plan, Fail> {
     let (main, others) = parts(text, "|");

@@ -9,9 +9,10 @@ use ld_core::Core;
 use std::alloc::{AllocError, Global};
 use std::test::Fail;
 
-// How long iterations last, in nanoseconds, and a plan; then behind how many entries a stop is commanded, how many users
-// were taken, how many of them are back, how many iterations began, how many of them ended, how many scenarios were
-// halted and how many closed, what a second stop is told, whether all other commands were denied, and the last reply.
+// How long iterations last, in nanoseconds, and a plan; then behind how many entries a stop is commanded, how many
+// users were taken, how many of them are back, how many iterations began, how many of them ended, how many scenarios
+// were halted and how many closed, what a second stop is told, whether all other commands were denied, and the last
+// reply.
 //
 // Without a stop the entries are: at 0 the first scenario takes user 1 (1) and starts it (2); at 250 milliseconds the
 // second takes user 2 (3) and starts it (4); at 500 the first grows user 3 and starts it (5, 6), and at 750 the second
