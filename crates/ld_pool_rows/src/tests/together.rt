@@ -8,7 +8,8 @@ use std::test::Fail;
 // Where both scenarios are due the lesser one comes first, in each rank. An arrival that was due earlier comes before
 // one of a lesser scenario, and a drop before a start where its arrival is of a lesser scenario. At one reading the
 // greater scenario lets its user go, the lesser takes a user, the greater counts an arrival late that was due before
-// that of the lesser, and then the lesser starts; the greater closes last.
+// that of the lesser, and then the lesser starts; the greater closes last. The greater one's take comes before the
+// lesser one's start, and its drop before the lesser one's close.
 const ORDER: &str = "\
 4 1 1 0:1 1000000 | early 2 1 1
 act 0 => Took(0, 1)
@@ -44,6 +45,18 @@ act 1000000000 => Took(0, 1)
 act 1000000000 => Late(1, 1)
 act 1000000000 => Run(0, 1, 0, 32000000000)
 act 1000000000 => Closed(1)
+act 1000000000 => Wait(1500000000)
+2 1 1 0:1 1000000 | next 2 1 1 \"startTime\":\"500ms\",
+act 0 => Took(0, 1)
+act 0 => Run(0, 1, 0, 31000000000)
+return 400000000 0 1 0 31000000000 => Noted
+act 500000000 => Took(1, 2)
+act 500000000 => Run(0, 1, 1, 31000000000)
+act 500000000 => Run(1, 2, 0, 31500000000)
+return 900000000 0 1 1 31000000000 => Noted
+act 1000000000 => Released(0, 1)
+act 1000000000 => Dropped(1, 1)
+act 1000000000 => Closed(0)
 act 1000000000 => Wait(1500000000)";
 
 // How long to wait: until the least of the begins, the ends and the open arrivals of all scenarios, and of what busy
