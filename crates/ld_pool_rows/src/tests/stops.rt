@@ -19,6 +19,9 @@ use std::test::Fail;
 // grows user 4 and starts it (7, 8), both in one step. Each of the four is returned and released a second after its
 // start (9 to 14, 16 and 17), and each scenario closes behind its last user (15 and 18). The second scenario is halted
 // where it holds a user 500 milliseconds behind the command, which comes as soon as that many entries are there.
+//
+// Of two that follow each other the first has two users, and is closed (9) long before the second takes two (10, 11)
+// and starts them (12, 13). Behind the stop the second is closed before its begin, or lets go whom it holds idle.
 const STOPPED: &str = "\
 1000000000 2 1 2 0:1 1000000 | next 2 1 2 \"startTime\":\"250ms\",\"gracefulStop\":\"500ms\",
 0 => 0 0, 0 0, 0 2, Denied true Over
@@ -37,7 +40,12 @@ const STOPPED: &str = "\
 15 => 4 4, 4 4, 0 2, Denied true Over
 16 => 4 4, 4 4, 0 2, Denied true Over
 17 => 4 4, 4 4, 0 2, Denied true Over
-18 => 4 4, 4 4, 0 2, Denied true Over";
+18 => 4 4, 4 4, 0 2, Denied true Over
+1000000000 2 1 2 0:1 1000000 | next 2 2 2 \"startTime\":\"31s\",
+9 => 2 2, 2 2, 0 2, Denied true Over
+10 => 3 3, 2 2, 0 2, Denied true Over
+11 => 4 4, 2 2, 0 2, Denied true Over
+12 => 4 4, 3 3, 0 2, Denied true Over";
 
 // More moments, and more acts at one of them, than the rehearsal has.
 const MANY: u32 = 50;
