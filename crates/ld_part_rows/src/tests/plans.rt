@@ -10,7 +10,9 @@ use std::test::Fail;
 
 // Tests by their names: two arrivals in a second, for one user and at most two; ten in a second that begins late, for
 // two users and at most five; four in a second for one user; as many as there may be, one more, a million, and more
-// than any number tells.
+// than any number tells. Then tests of two scenarios: a thousand users together, and one more; twice 600 users, the
+// later ones where the iterations of the others have to have ended, and a nanosecond earlier; and too many arrivals of
+// the greater scenario, beside too many users.
 const TESTS: &str =
     r#"small {"options":{"scenarios":{"main":{"executor":"constant-arrival-rate","rate":2,"timeUnit":"1s","duration":"1s","preAllocatedVUs":1,"maxVUs":2}}},"scripts":{"default":[]}}
 late {"options":{"scenarios":{"late":{"executor":"constant-arrival-rate","startTime":"5s","gracefulStop":"10s","rate":10,"timeUnit":"1s","duration":"1s","preAllocatedVUs":2,"maxVUs":5}}},"scripts":{"default":[]}}
@@ -18,7 +20,12 @@ lonely {"options":{"scenarios":{"main":{"executor":"constant-arrival-rate","rate
 many {"options":{"scenarios":{"main":{"executor":"constant-arrival-rate","rate":400000,"timeUnit":"1s","duration":"1s","preAllocatedVUs":1,"maxVUs":1}}},"scripts":{"default":[]}}
 too_many {"options":{"scenarios":{"main":{"executor":"constant-arrival-rate","rate":400001,"timeUnit":"1s","duration":"1s","preAllocatedVUs":1,"maxVUs":1}}},"scripts":{"default":[]}}
 million {"options":{"scenarios":{"main":{"executor":"constant-arrival-rate","rate":1000000,"timeUnit":"1s","duration":"1s","preAllocatedVUs":1,"maxVUs":1}}},"scripts":{"default":[]}}
-untold {"options":{"scenarios":{"main":{"executor":"constant-arrival-rate","rate":1000000,"timeUnit":"1ns","duration":"720h","preAllocatedVUs":1,"maxVUs":1}}},"scripts":{"default":[]}}"#;
+untold {"options":{"scenarios":{"main":{"executor":"constant-arrival-rate","rate":1000000,"timeUnit":"1ns","duration":"720h","preAllocatedVUs":1,"maxVUs":1}}},"scripts":{"default":[]}}
+thousand {"options":{"scenarios":{"main":{"executor":"constant-arrival-rate","rate":2,"duration":"1s","preAllocatedVUs":600},"also":{"executor":"constant-arrival-rate","rate":3,"duration":"1s","preAllocatedVUs":1,"maxVUs":400}}},"scripts":{"default":[]}}
+crowd {"options":{"scenarios":{"main":{"executor":"constant-arrival-rate","rate":2,"duration":"1s","preAllocatedVUs":600},"also":{"executor":"constant-arrival-rate","rate":3,"duration":"1s","preAllocatedVUs":1,"maxVUs":401}}},"scripts":{"default":[]}}
+in_turn {"options":{"scenarios":{"main":{"executor":"constant-arrival-rate","rate":2,"duration":"1s","preAllocatedVUs":600},"next":{"executor":"constant-arrival-rate","startTime":"31s","rate":3,"duration":"1s","preAllocatedVUs":600}}},"scripts":{"default":[]}}
+overlap {"options":{"scenarios":{"main":{"executor":"constant-arrival-rate","rate":2,"duration":"1s","preAllocatedVUs":600},"next":{"executor":"constant-arrival-rate","startTime":"30999999999ns","rate":3,"duration":"1s","preAllocatedVUs":600}}},"scripts":{"default":[]}}
+greater {"options":{"scenarios":{"next":{"executor":"constant-arrival-rate","rate":400001,"duration":"1s","preAllocatedVUs":600},"main":{"executor":"constant-arrival-rate","rate":2,"duration":"1s","preAllocatedVUs":600}}},"scripts":{"default":[]}}"#;
 
 // A test, a segment, a sequence and the journal's entries, with the position, the users, the row of the scenario, and
 // the items among the first ten that the plan owns, with their moments.
@@ -40,7 +47,8 @@ const TICKS: &str = "\
 late 0:1/4 0,1/4,1 1000000 => 1@100000000 6@600000000 none";
 
 // The same, with why there is no plan: segments that are none of the sequence, and periods that are too large; they
-// come before too many arrivals, over the whole test, and before a journal that is too small for the owned ones.
+// come before too many arrivals, over the whole test; then too many users of all scenarios at one moment, over the
+// whole test; and then a journal that is too small for the owned arrivals.
 const REFUSED: &str = "\
 small 0:1/2 0,1/2,1 10 => planned
 small 0:1/2 0,1/3,1 10 => NotInSequence
@@ -60,7 +68,14 @@ late 0:1 0,1 20 => JournalTooSmall { needed: 21, limit: 20 }
 late 0:1 0,1 21 => planned
 late 1/4:1 0,1/4,1 10 => JournalTooSmall { needed: 17, limit: 10 }
 late 1/4:1 0,1/4,1 16 => JournalTooSmall { needed: 17, limit: 16 }
-late 1/4:1 0,1/4,1 17 => planned";
+late 1/4:1 0,1/4,1 17 => planned
+thousand 0:1 0,1 12 => planned
+thousand 0:1 0,1 11 => JournalTooSmall { needed: 12, limit: 11 }
+crowd 0:1 0,1 10 => TooManyUsers(1001)
+crowd 0:1/4 0,1/4,1 12 => TooManyUsers(1001)
+in_turn 0:1 0,1 12 => planned
+overlap 0:1 0,1 12 => TooManyUsers(1200)
+greater 0:1 0,1 10 => TooManyArrivals { scenario: 1, count: 400001 }";
 
 // The test of this name.
 fn test_named(name: &str) -> &'static str {

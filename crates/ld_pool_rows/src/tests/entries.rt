@@ -4,7 +4,8 @@ use ld_base::{Act, Entry, History, Outcome};
 use std::alloc::Global;
 use std::test::Fail;
 
-/// The entries of a history: of each its turn, its act, the user and the item or slot that it names, and its reading.
+/// The entries of a history: of each its turn, its act, the scenario, the user and the item or slot that it names, and
+/// its reading.
 pub fn history_text(alloc: Global, history: &History) -> Result<String, Fail> {
     let mut said = String::new(alloc);
     for at in 0..history.len() {
@@ -20,29 +21,43 @@ pub fn history_text(alloc: Global, history: &History) -> Result<String, Fail> {
 
 // What an entry tells.
 fn entry_text(alloc: Global, entry: &Entry) -> Result<String, Fail> {
-    let (act, user, item) = act_of(&entry.act);
+    let (act, scenario, user, item) = act_of(&entry.act);
     let (turn, reading) = (entry.turn, entry.reading);
-    Ok(format!(in alloc; "{turn} {act} {user} {item} {reading}")?)
+    Ok(format!(in alloc; "{turn} {act} {scenario} {user} {item} {reading}")?)
 }
 
-// An act's name, and the user and the item or slot that it names, or 0.
-fn act_of(act: &Act) -> (&'static str, u32, u64) {
+/// An act's name, and the scenario, the user and the item or slot that it names, or 0.
+pub fn act_of(act: &Act) -> (&'static str, u16, u32, u64) {
     match act {
-        Act::Take { user, slot, .. } => ("take", *user, *slot as u64),
-        Act::Grow { user, slot, .. } => ("grow", *user, *slot as u64),
-        Act::Start { user, item, .. } => ("start", *user, *item),
-        Act::Drop { item, .. } => ("drop", 0, *item),
-        Act::Late { item, .. } => ("late", 0, *item),
+        Act::Take {
+            scenario,
+            user,
+            slot,
+        } => ("take", *scenario, *user, *slot as u64),
+        Act::Grow {
+            scenario,
+            user,
+            slot,
+        } => ("grow", *scenario, *user, *slot as u64),
+        Act::Start {
+            scenario,
+            user,
+            item,
+            ..
+        } => ("start", *scenario, *user, *item),
+        Act::Drop { scenario, item } => ("drop", *scenario, 0, *item),
+        Act::Late { scenario, item } => ("late", *scenario, 0, *item),
         Act::Return {
+            scenario,
             user,
             item,
             outcome,
             ..
-        } => (outcome_name(*outcome), *user, *item),
-        Act::Release { user, .. } => ("release", *user, 0),
-        Act::Stop { .. } => ("stop", 0, 0),
-        Act::Close { .. } => ("close", 0, 0),
-        Act::Control { .. } => ("control", 0, 0),
+        } => (outcome_name(*outcome), *scenario, *user, *item),
+        Act::Release { scenario, user } => ("release", *scenario, *user, 0),
+        Act::Stop { scenario } => ("stop", *scenario, 0, 0),
+        Act::Close { scenario } => ("close", *scenario, 0, 0),
+        Act::Control { .. } => ("control", 0, 0, 0),
     }
 }
 

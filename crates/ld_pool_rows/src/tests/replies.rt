@@ -2,16 +2,16 @@
 
 use ld_base::{Reply, Room};
 
-/// What a reply tells of a run of one scenario. A stint is put aside.
+/// What a reply tells: of an act its scenario first. A stint is put aside.
 #[derive(Clone, Copy, Debug)]
 pub enum Said {
-    Run(u32, u64, u64),
-    Dropped(u64),
-    Late(u64),
-    Took(u32),
-    Released(u32),
-    Stopped,
-    Closed,
+    Run(u16, u32, u64, u64),
+    Dropped(u16, u64),
+    Late(u16, u64),
+    Took(u16, u32),
+    Released(u16, u32),
+    Stopped(u16),
+    Closed(u16),
     Noted,
     Denied,
     Go,
@@ -27,16 +27,17 @@ pub enum Said {
 pub fn told(reply: Reply) -> Said {
     match reply {
         Reply::Run(stint) => {
-            let told = Said::Run(stint.user(), stint.item(), stint.until());
+            let (scenario, user) = (stint.scenario(), stint.user());
+            let told = Said::Run(scenario, user, stint.item(), stint.until());
             stint.spend();
             told
         }
-        Reply::Dropped { scenario: _, item } => Said::Dropped(item),
-        Reply::Late { scenario: _, item } => Said::Late(item),
-        Reply::Took { scenario: _, user } => Said::Took(user),
-        Reply::Released { scenario: _, user } => Said::Released(user),
-        Reply::Stopped { scenario: _ } => Said::Stopped,
-        Reply::Closed { scenario: _ } => Said::Closed,
+        Reply::Dropped { scenario, item } => Said::Dropped(scenario, item),
+        Reply::Late { scenario, item } => Said::Late(scenario, item),
+        Reply::Took { scenario, user } => Said::Took(scenario, user),
+        Reply::Released { scenario, user } => Said::Released(scenario, user),
+        Reply::Stopped { scenario } => Said::Stopped(scenario),
+        Reply::Closed { scenario } => Said::Closed(scenario),
         Reply::Noted => Said::Noted,
         Reply::Denied => Said::Denied,
         Reply::Go => Said::Go,

@@ -2,10 +2,12 @@
 
 use std::test::Fail;
 
-// Tests, each behind its name: three arrivals in a second, and four for two users.
+// Tests, each behind its name: three arrivals in a second; four for two users; and two arrivals in each of two
+// scenarios, of which the later one begins when the last iteration of the first has to have ended.
 const TESTS: &str =
     r#"three {"options":{"scenarios":{"main":{"executor":"constant-arrival-rate","rate":3,"duration":"1s","preAllocatedVUs":1}}},"scripts":{"default":[]}}
-four {"options":{"scenarios":{"main":{"executor":"constant-arrival-rate","rate":4,"duration":"1s","preAllocatedVUs":2}}},"scripts":{"default":[]}}"#;
+four {"options":{"scenarios":{"main":{"executor":"constant-arrival-rate","rate":4,"duration":"1s","preAllocatedVUs":2}}},"scripts":{"default":[]}}
+in-turn {"options":{"scenarios":{"second":{"executor":"constant-arrival-rate","startTime":"31s","rate":2,"duration":"1s","preAllocatedVUs":1,"maxVUs":2},"first":{"executor":"constant-arrival-rate","rate":2,"duration":"1s","preAllocatedVUs":1,"maxVUs":2}}},"scripts":{"default":[]}}"#;
 
 // Journals, each behind a line with its name:
 // - `one-user`: two arrivals with one user; the second is dropped, since the first is under way;
@@ -14,7 +16,9 @@ four {"options":{"scenarios":{"main":{"executor":"constant-arrival-rate","rate":
 // - `full`: four arrivals with room for ten entries, that is, for all but the close;
 // - `apart`: two arrivals that are 1,500 milliseconds apart;
 // - `minute`: two arrivals in a minute, with iterations of 1,500 milliseconds;
-// - `first-half` and `second-half`: the halves of the test `four`, with iterations of 100 milliseconds.
+// - `first-half` and `second-half`: the halves of the test `four`, with iterations of 100 milliseconds;
+// - `in-turn`: the test `in-turn`, with iterations of a second: a second user is made for the first scenario, and the
+//   second scenario takes both.
 const JOURNALS: &str = r#"# one-user
 ldjournal 1
 test 188
@@ -137,6 +141,32 @@ entries 20
 6 0 1000000000 release 0 1
 7 0 1000000000 close 0
 end 7
+# in-turn
+ldjournal 1
+test 273
+{"options":{"scenarios":{"second":{"executor":"constant-arrival-rate","startTime":"31s","rate":2,"duration":"1s","preAllocatedVUs":1,"maxVUs":2},"first":{"executor":"constant-arrival-rate","rate":2,"duration":"1s","preAllocatedVUs":1,"maxVUs":2}}},"scripts":{"default":[]}}
+segment 0:1
+sequence 0,1
+entries 1000000
+1 0 0 take 0 1 0
+2 0 0 start 0 1 0 31000000000
+3 0 500000000 grow 0 2 1
+4 0 500000000 start 0 2 1 31000000000
+5 0 1000000000 return 0 1 0 done 0
+6 0 1000000000 release 0 1
+7 0 1500000000 return 0 2 1 done 0
+8 0 1500000000 release 0 2
+9 0 1500000000 close 0
+10 0 31000000000 take 1 1 0
+11 0 31000000000 start 1 1 0 62000000000
+12 0 31500000000 take 1 2 1
+13 0 31500000000 start 1 2 1 62000000000
+14 0 32000000000 return 1 1 0 done 0
+15 0 32000000000 release 1 1
+16 0 32500000000 return 1 2 1 done 0
+17 0 32500000000 release 1 2
+18 0 32500000000 close 1
+end 18
 "#;
 
 /// The test of this name, or else the text itself.

@@ -9,7 +9,9 @@ const ANSWERED: &str =
     r#"test three | plan t --list => 0, out "sequence 0,1 position 0\nusers 1 1\nscenario main constant-arrival-rate begin 0 end 1000000000 hard 31000000000 users 1 max 1 items 3\nmoment 0 0\nmoment 1 333333333\nmoment 2 666666666\n", read t
 test four | plan t --segment 1/2:1 --sequence 0,1/2,1 => 0, out "sequence 0,1/2,1 position 1\nusers 1 1\nscenario main constant-arrival-rate begin 0 end 1000000000 hard 31000000000 users 1 max 1 items 2\n", read t
 test four | rehearse t --segment 1/2 --iteration 100ms --journal j => 0, out "users 1 1\nscenario main planned 2 started 2 done 2 interrupted 0 dropped 0 late 0\n", read t, start j, append j, j is first-half
-test four | rehearse t --journal j --segment=1/2:1 --sequence=0,1/2,1 --iteration=100ms --entries=20 => 0, out "users 1 1\nscenario main planned 2 started 2 done 2 interrupted 0 dropped 0 late 0\n", read t, start j, append j, j is second-half"#;
+test four | rehearse t --journal j --segment=1/2:1 --sequence=0,1/2,1 --iteration=100ms --entries=20 => 0, out "users 1 1\nscenario main planned 2 started 2 done 2 interrupted 0 dropped 0 late 0\n", read t, start j, append j, j is second-half
+test in-turn | plan t --list => 0, out "sequence 0,1 position 0\nusers 1 2\nscenario first constant-arrival-rate begin 0 end 1000000000 hard 31000000000 users 1 max 2 items 2\nmoment 0 0\nmoment 1 500000000\nscenario second constant-arrival-rate begin 31000000000 end 32000000000 hard 62000000000 users 1 max 2 items 2\nmoment 0 31000000000\nmoment 1 31500000000\n", read t
+test in-turn | rehearse t --iteration 1s --journal j => 0, out "users 1 2\nscenario first planned 2 started 2 done 2 interrupted 0 dropped 0 late 0\nscenario second planned 2 started 2 done 2 interrupted 0 dropped 0 late 0\n", read t, start j, append j, j is in-turn"#;
 
 // Documents that are refused, a row for each refusal.
 const REFUSED: &str = r#"test { | plan t => 5, err "error 40 NotJson\n", read t
@@ -32,7 +34,8 @@ const UNPLANNED: &str =
     r#"test three | plan t --segment 1/3 --sequence 0,1/2,1 => 5, err "error 15 NotInSequence\n", read t
 test three | plan t --segment 1/100001 => 5, err "error 16 PeriodTooLarge 100001\n", read t
 test {"options":{"scenarios":{"main":{"executor":"constant-arrival-rate","rate":1000000,"duration":"1s","preAllocatedVUs":1}}},"scripts":{"default":[]}} | plan t => 5, err "error 31 TooManyArrivals 0 1000000\n", read t
-test {"options":{"scenarios":{"main":{"executor":"constant-arrival-rate","rate":10,"duration":"1s","preAllocatedVUs":1}}},"scripts":{"default":[]}} | plan t --entries 10 => 5, err "error 81 JournalTooSmall 21 10\n", read t"#;
+test {"options":{"scenarios":{"main":{"executor":"constant-arrival-rate","rate":10,"duration":"1s","preAllocatedVUs":1}}},"scripts":{"default":[]}} | plan t --entries 10 => 5, err "error 81 JournalTooSmall 21 10\n", read t
+test {"options":{"scenarios":{"b":{"executor":"constant-arrival-rate","rate":1,"duration":"1s","preAllocatedVUs":1,"maxVUs":401},"a":{"executor":"constant-arrival-rate","rate":1,"duration":"1s","preAllocatedVUs":600}}},"scripts":{"default":[]}} | plan t => 5, err "error 80 TooManyUsers 1001\n", read t"#;
 
 // Segments and sequences that are refused before the file is read.
 const CUTS: &str = r#"test { | plan t --segment 0:101% => 5, err "error 12 AboveOne 1\n"
