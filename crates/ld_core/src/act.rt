@@ -48,7 +48,13 @@ impl Core {
     {
         match first.next {
             Next::Halt => self.act_stop(thread, first.scenario, reading),
-            Next::Wished { wish, .. } => self.act_wished(thread, first.scenario, wish, free, reading),
+            Next::Wished { wish, .. } => self.act_wished(
+                thread,
+                first.scenario,
+                wish,
+                free,
+                reading,
+            ),
         }
     }
 

@@ -118,13 +118,7 @@ fn due_wished(wish: Wish, arrivals: bool) -> u64
     ensures { result ≡ due_wished wish arrivals }
 {
     match wish {
-        Wish::Start { due, .. } | Wish::Drop { due, .. } => {
-            if arrivals {
-                due
-            } else {
-                0
-            }
-        }
+        Wish::Start { due, .. } | Wish::Drop { due, .. } => { if arrivals { due } else { 0 } }
         Wish::More { due, .. } | Wish::Late { due, .. } => due,
         Wish::Release { .. } | Wish::Take { .. } | Wish::Close | Wish::Nothing => 0,
     }
