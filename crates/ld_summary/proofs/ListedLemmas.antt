@@ -1,11 +1,11 @@
 -- The lines of the owned items are those of the arrivals.
-use Rattle.std.proofs.Common.{◌≡◌, ◌<◌, ◌+◌, ◌∙◌, ◌==◌, ◌∷◌, [], ℕ, zero, suc, Bool, true, false, List, map, cond, arith, ap, sym, refl, subst}
+use Rattle.std.proofs.Common.{◌≡◌, ◌<◌, ◌+◌, ◌∙◌, ◌==◌, ◌↔◌, ◌∷◌, [], ℕ, zero, suc, Bool, true, false, List, map, cond, arith, ap, sym, refl, subst}
 use Rattle.std.proofs.lemmas.Bool.{eq-eqb, eqb-true}
 use Rattle.std.proofs.lemmas.Option.{MatchOption-at_some, same_Some, slice_get-map}
 use Rattle.std.proofs.lemmas.Slice.Zip.{AllZip-left}
 use Rattle.std.specs.List.{AllByRecursion, filter, range_with_len}
 use Rattle.std.specs.Option.{IsSomeAnd}
-use Rattle.std.specs.Prelude.{Some, option_map, slice_get}
+use Rattle.std.specs.Prelude.{Contains, Some, option_map, slice_get}
 use Rattle.ld_stripe.specs.Striping.{Striping, owner_at}
 use Rattle.ld_arrival.proofs.CountLemmas.{counted}
 use Rattle.ld_arrival.specs.Limits.{IsWithinLimits}
@@ -15,8 +15,8 @@ use Rattle.ld_machine.specs.Plan.{Part}
 use Rattle.ld_machine.specs.Scenario.{executor_arrivals}
 use Rattle.ld_options.specs.Ranges.{IsScenarioInRange}
 use Rattle.ld_options.specs.declared.scenario.Scenario.{Scenario}
+use Rattle.ld_plan.proofs.ExecutorLemmas.{arrivals_owned, items_owned, within_limits}
 use Rattle.ld_plan.proofs.OwnedLemmas.{owned_item}
-use Rattle.ld_plan.proofs.PartLemmas.{within_limits}
 use Rattle.ld_plan.specs.Executor.{timetable_of}
 use Rattle.ld_plan.specs.IsPlanOf.{IsPartOf, part_of, sample_room, whole_of}
 use Rattle.ld_plan.specs.PartView.{PartView}
@@ -67,13 +67,16 @@ of_part room striping items j s limits =
     let goes_here : ℕ → Bool = λ k. owner_at items.owners k == j in
     let same : (k : ℕ) → k < 0 + planned_count timetable → is_owned part k ≡ goes_here k =
     λ k below.
-    let is = owned_item whole j k limits (omega (arith, below)) in
+    let is =
+    subst (λ items. (owner_at whole.owners k ≡ j) ↔ Contains items k) (sym (items_owned s.executor items.owners striping j))
+    (owned_item whole j k limits (omega (arith, below))) in
     sym (owned_is part k (goes_here k) ((λ holds. is.0 (eqb-true _ _ holds)), (λ has. eq-eqb _ _ (is.1 has)))) in
     let those : List ℕ = filter goes_here (planned timetable) in
     ap (map (item_line s)) (filter_same (is_owned part) goes_here 0 (planned_count timetable) same ∙ ap (filter goes_here) (sym (counted timetable limits).all))
     ∙ sym (map_twice (arrival_line part) (λ k. arrival_of (arrival_at timetable k)) those)
     ∙ ap (map (arrival_line part)) (sym (map_twice arrival_of (arrival_at timetable) those))
     ∙ ap (λ pairs. map (arrival_line part) (map arrival_of pairs)) (sym (filter_made (λ pair. owner_at items.owners pair.0 == j) (arrival_at timetable) (planned timetable)))
+    ∙ ap (map (arrival_line part)) (sym (arrivals_owned s.executor items.owners striping j))
 
 pub listed : (seen : PlanView) (n : ℕ) (scenario : Scenario) (part : Part) → IsMade seen →
     slice_get seen.options.scenarios n ≡ Some scenario → slice_get seen.plan.parts n ≡ Some part →

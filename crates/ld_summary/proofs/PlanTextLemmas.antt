@@ -111,6 +111,12 @@ moment_is seen n s item moment made at is =
     ∙ ap (λ (p : Part). moment_after p.begin (moment_of view.whole.timetable item)) own.part_is
     ∙ ap (λ (w : Whole). moment_after s.begin (moment_of w.timetable item)) own.whole_is
 
+-- nothing is told of a part that is there before its first item
+pub told_none : (o : Option Part) (s : Scenario) (end : ℕ) (a : List ℕ) → IsSomeAnd o (λ part. end ≡ part.whole_items) →
+    IsSomeAnd o (λ part. a ≡ a ++ concat (lines_below s part 0))
+told_none None s end a there_is = absurd there_is
+told_none (Some part) s end a there_is = sym (append-nil a)
+
 -- what was told of the part so far, and is told behind one item more
 pub told_added : (o : Option Part) (s : Scenario) (n : ℕ) (a b c : List ℕ) (owned : Bool) → owned ≡ true →
     IsSomeAnd o (λ part. IsTrue owned ↔ Contains (owned_items part.executor) n) → IsSomeAnd o (λ part. b ≡ a ++ concat (lines_below s part n)) →

@@ -1,6 +1,7 @@
-use Rattle.std.proofs.Common.{◌∙◌, ◌++◌, ap, arith}
+use Rattle.std.proofs.Common.{◌∙◌, ◌++◌, [], ap, arith, sym}
+use Rattle.std.proofs.lemmas.List.{append-nil}
 use Rattle.ld_summary.specs.PlanText.{moment_line}
-use Rattle.ld_summary.proofs.PlanTextLemmas.{moment_is, told_added, told_all, told_passed}
+use Rattle.ld_summary.proofs.PlanTextLemmas.{moment_is, told_added, told_all, told_none, told_passed}
 use Rattle.ld_summary.proofs.ScenarioLemmas.{grows_more, on_err}
 use Rattle.ld_summary.proofs.plan_lines.put_items.Goals as goal
 use Rattle.ld_summary.proofs.plan_lines.put_items.Goals.{then-owns+in_ok-put_moment, else-owns}
@@ -10,6 +11,14 @@ returns-in_err-put_moment-clause-err c =
     let so_far = c.loop-item.invariant.grows in
     on_err c.from_residual.result
     (grows_more c.args.into.now.items c.loop-item.into.items c.put_moment.new.into.items so_far.0 so_far.1 c.in_err-put_moment.ensures.err)
+
+pub loop-item-init : goal.loop-item-init
+loop-item-init c =
+    let before = c.args.into.now.items in
+    record {
+      told = λ scenario at. told_none _ scenario c.whole_items-item-end.result before c.whole_items-item-end.ensures;
+      grows = ([], sym (append-nil before));
+    }
 
 pub loop-item-preserved : goal.loop-item-preserved
 loop-item-preserved c =
