@@ -27,7 +27,7 @@ use Rattle.ld_machine.proofs.ListLemmas.{both_true, some_not_none}
 use Rattle.ld_machine.proofs.PlayersLemmas.{player_made}
 use Rattle.ld_machine.proofs.PlayingLemmas.{legal_matches}
 use Rattle.ld_plan.specs.PlanView.{PlanView}
-use Rattle.ld_rehearsal.specs.Dues.{due_at, due_in, due_of}
+use Rattle.ld_rehearsal.specs.Dues.{due_at, due_in, due_of, EndsLater}
 use Rattle.ld_rehearsal.specs.Stage.{full_reply, playing, stage_plan, stage_state, IsActing, IsAnswered, IsDue, IsReturning, IsSameMoment, IsStage, MayReturn}
 use Rattle.ld_rehearsal.specs.declared.due.Due.{Due}
 use Rattle.ld_rehearsal.specs.declared.stage.Said.TheVariants.{Acted}
@@ -203,9 +203,10 @@ return_noted stage stint finished tally core reply asked =
 
 -- ---- where nothing is returned
 
--- the next user may be returned, where this one plays nothing that ends now
-pub passed_by : (stage : Stage) (user : ℕ) → ((due : Due) → due_at stage.dues user ≡ Some due → stage.moment < due.end) → MayReturn stage user → MayReturn stage (user + 1)
-passed_by stage user later may =
+-- a later user may be returned, where whatever those before it play ends later
+pub passed_to : (stage : Stage) (from to : ℕ) → from ≤ to → ((user : ℕ) → from ≤ user → user < to → EndsLater stage.dues stage.moment user) →
+    MayReturn stage from → MayReturn stage to
+passed_to stage from to order later may =
     let blocked = may.0 in
     let returning = may.1 in
     let each = returning.stage_is.dues.each in (
@@ -213,53 +214,68 @@ passed_by stage user later may =
       record {
         stage_is = returning.stage_is;
         ends = returning.ends;
-        below = λ other due is less. elim (dec_lt other user) [
+        below = λ other due is less. elim (dec_lt other from) [
           | yes before ↦ returning.below other due is before
-          | no behind ↦
-              let same : other ≡ user = omega arith in
-              later due (each user ∙ ap (λ (u : ℕ). playing stage u) (sym same) ∙ is)
+          | no behind ↦ later other (omega arith) less due (each other ∙ is)
         ];
         order = λ e now back above. returning.order e now back (omega arith);
         ended = λ b.
             let one = returning.ended b in
-            let low : user ≤ one.0 = one.2 in
-            let apart : user ≢ one.0 = λ same. let late : stage.moment < one.1.end = later one.1 (each user ∙ ap (λ (u : ℕ). playing stage u) same ∙ one.3) in
-            let now : one.1.end ≡ stage.moment = one.4 in absurd (omega arith) in
-            (one.0, one.1, grind (arith, common_steps), one.3, one.4);
+            let low : from ≤ one.0 = one.2 in
+            let now : one.1.end ≡ stage.moment = one.4 in
+            let high : to ≤ one.0 = elim (dec_lt one.0 to) [
+              | yes before ↦ let late : stage.moment < one.1.end = later one.0 low before one.1 (each one.0 ∙ one.3) in absurd (omega arith)
+              | no behind ↦ omega arith
+            ] in
+            (one.0, one.1, high, one.3, one.4);
       },
     )
 
+-- nobody is user 0
+pub nobody_first : (stage : Stage) → MayReturn stage 0 → MayReturn stage 1
+nobody_first stage may =
+    passed_to stage 0 1 (omega arith) (λ user low high due is. let first : user ≡ 0 = omega arith in absurd (some_not_none (sym is ∙ ap (λ (u : ℕ). due_at stage.dues u) first))) may
+
+-- the next user who plays what ends by now may be returned
+pub next_returned : (stage : Stage) (last user : ℕ) → last < user → ((other : ℕ) → last < other → other < user → EndsLater stage.dues stage.moment other) →
+    MayReturn stage (last + 1) → MayReturn stage user
+next_returned stage last user further later = passed_to stage (last + 1) user (omega arith) (λ other low high. later other (omega arith) high)
+
+-- and fewer users are left behind it
+pub fewer_left : (old new : Stage) (last user : ℕ) (due : Due) → MayReturn old user → IsDue old user due → IsSameMoment old new → last < user →
+    (stage_plan new).limit - user < (stage_plan old).limit - last
+fewer_left old new last user due may is_due same further =
+    let within = due_within old user due may.0 may.1 is_due in
+    let high : user ≤ length old.dues = within.1 in
+    let count : length old.dues ≡ (stage_plan old).limit = may.1.stage_is.dues.count in
+    let plans : (stage_plan new).limit ≡ (stage_plan old).limit = ap (λ (p : PlanView). p.plan.limit) same.run.plan in
+    omega arith
+
 -- behind all users acts may be asked for
-pub all_returned : (stage : Stage) → MayReturn stage ((stage_plan stage).limit + 1) → IsActing stage
-all_returned stage may =
+all_returned : (stage : Stage) (to : ℕ) → (stage_plan stage).limit < to → MayReturn stage to → IsActing stage
+all_returned stage to behind may =
     let returning = may.1 in
-    let within : (user : ℕ) (due : Due) → playing stage user ≡ Some due → user < (stage_plan stage).limit + 1 =
+    let within : (user : ℕ) (due : Due) → playing stage user ≡ Some due → user < to =
     λ user due is.
     let played = due_played stage.length (play_of user stage.core.entries) due is in
     let made = player_made (stage_plan stage) stage.core.entries user played.0 returning.stage_is.planned returning.stage_is.played.legal played.1 in
     let high : user ≤ (stage_plan stage).limit = made.1 in omega arith in
-    let P : Bool → Type 0 = λ b. IsReturning stage ((stage_plan stage).limit + 1) b → IsStage stage false in
+    let P : Bool → Type 0 = λ b. IsReturning stage to b → IsStage stage false in
     let unblocked : P may.0 = elim may.0 as P [
-      | true ↦ λ at. absurd (let one = at.ended refl in let low : (stage_plan stage).limit + 1 ≤ one.0 = one.2 in let high : one.0 < (stage_plan stage).limit + 1 = within one.0 one.1 one.3 in omega arith)
+      | true ↦ λ at. absurd (let one = at.ended refl in let low : to ≤ one.0 = one.2 in let high : one.0 < to = within one.0 one.1 one.3 in omega arith)
       | false ↦ λ at. at.stage_is
     ] in
     record { stage_is = unblocked returning; ends = λ user due is. returning.below user due is (within user due is) }
 
--- what else is found in the table is the same
-pub found_later : (t : ℕ) (o : Option Due) (one : Due) → o ≡ Some one → t < one.end → (due : Due) → o ≡ Some due → t < due.end
-found_later t o one is later due at =
-    let same : one.end ≡ due.end = ap (λ (x : Option Due). option_map_or (λ (d : Due). d.end) x 0) (sym is ∙ at) in omega arith
+-- and where nobody else plays what ends by now
+pub nobody_due : (stage : Stage) (from : ℕ) → ((user : ℕ) → from ≤ user → EndsLater stage.dues stage.moment user) → MayReturn stage from → IsActing stage
+nobody_due stage from later may =
+    let to = from + (stage_plan stage).limit + 1 in
+    all_returned stage to (omega arith) (passed_to stage from to (omega arith) (λ user low high. later user low) may)
 
 pub same_moments : (a b c : Stage) → IsSameMoment a b → IsSameMoment b c → IsSameMoment a c
 same_moments a b c one two =
     record { run = record { plan = two.run.plan ∙ one.run.plan; length = two.run.length ∙ one.run.length }; moment = two.moment ∙ one.moment; full = two.full ∙ one.full }
-
--- the last user was looked at
-pub all_looked_at : (old stage : Stage) (before limit : ℕ) → IsSameMoment old stage → MayReturn stage (before + 1) → limit ≡ (stage_plan old).limit → before ≤ limit → limit ≤ before → IsActing stage
-all_looked_at old stage before limit same may is low high =
-    let plans : (stage_plan old).limit ≡ (stage_plan stage).limit = ap (λ (p : PlanView). p.plan.limit) (sym same.run.plan) in
-    let reach : before + 1 ≡ (stage_plan stage).limit + 1 = omega arith in
-    all_returned stage (subst (λ (u : ℕ). MayReturn stage u) reach may)
 
 -- each act leaves less room
 pub acts_end : (old new : Stage) → IsAnswered old new Acted → (stage_plan new).entry_limit - length new.core.entries < (stage_plan old).entry_limit - length old.core.entries

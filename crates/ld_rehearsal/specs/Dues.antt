@@ -1,5 +1,5 @@
 -- The iterations under way: when they end, and the table of them by user.
-use Rattle.std.specs.Prelude.{◌≡◌, ℕ, zero, suc, List, Option, None, filter_map, length, min, nat_le, option_map, slice_get, unwrap_or}
+use Rattle.std.specs.Prelude.{◌≡◌, ◌<◌, ◌^◌, ℕ, zero, suc, List, Option, None, Some, filter_map, length, map, min, nat_le, option_map, slice_get, unwrap_or}
 use Rattle.ld_base.specs.Stint.{StintView}
 use Rattle.ld_base.specs.declared.entry.Entry.{Entry}
 use Rattle.ld_machine.specs.Moment.{moment_after}
@@ -31,9 +31,22 @@ abbrev pub due_at : List (Option Due) → ℕ → Option Due
 due_at users zero = None
 due_at users (suc index) = unwrap_or (slice_get users index) None
 
+-- when what a user plays ends, if it plays anything
+abbrev pub end_of : Option Due → Option ℕ
+end_of due = option_map (λ (d : Due). d.end) due
+
 -- the ends of all iterations in the table
 abbrev pub ends_of : List (Option Due) → List ℕ
-ends_of users = filter_map (option_map (λ (d : Due). d.end)) users
+ends_of users = filter_map end_of users
+
+-- what the user plays, if anything, ends later than the moment
+abbrev pub EndsLater : List (Option Due) → ℕ → ℕ → Type 0
+EndsLater users moment user = (due : Due) → due_at users user ≡ Some due → moment < due.end
+
+-- beside what each user plays stands when it ends, and the count of the users is a u32
+pub record IsKept (users : List (Option Due)) (ends : List (Option ℕ)) : Type 0 where
+  pub small : length users < 2 ^ 32
+  pub ended : ends ≡ map end_of users
 
 -- the table of this many users has what each user plays behind the history
 pub record ShowsDues (long limit : ℕ) (history : List Entry) (users : List (Option Due)) : Type 0 where

@@ -1,8 +1,5 @@
 // The iterations under way, in a table by user number.
-ghost use Rattle.std.specs.Prelude.{◌≡◌};
-ghost use Rattle.std.specs.Option.{option_map_or};
-ghost use Rattle.std.specs.Prelude.{min};
-
+use ld_set::MomentTable;
 use std::alloc::{AllocError, Global};
 use std::marker::Model;
 
@@ -26,36 +23,48 @@ pub struct Due {
 #[derive(Drop)]
 pub struct Dues {
     users: Vec<Option<Due>>,
+    // When each iteration ends, by the user's number less 1.
+    ends: MomentTable,
 }
 
 impl Model for Dues {
     ghost use Rattle.std.specs.Prelude.{List, Option};
+    ghost use Rattle.ld_rehearsal.specs.Dues.{IsKept};
     ghost use Rattle.ld_rehearsal.specs.declared.due.Due.{Due};
 
     ghost Value = { List (Option Due) };
 
     ghost view = { λ d. d.users.items };
+
+    ghost invariant = { λ d. IsKept d.users.items d.ends };
 }
 
 impl Dues {
-    ghost use Rattle.std.specs.Prelude.{◌≡◌, ◌≤◌, ◌-◌, IfOk, None, Some, length, replicate, slice_set};
+    ghost use Rattle.std.specs.Prelude.{◌≡◌, ◌<◌, ◌≤◌, ◌-◌, ℕ, IfNone, IfOk, IfSome, None, Some, length, replicate, slice_set};
     ghost use Rattle.ld_machine.specs.Wait.{least_of};
-    ghost use Rattle.ld_rehearsal.specs.Dues.{due_at, ends_of};
+    ghost use Rattle.ld_rehearsal.specs.Dues.{due_at, ends_of, EndsLater};
 
     // A table of so many users, of whom none plays.
     pub(crate) fn new(alloc: Global, limit: u32) -> Result<Dues, AllocError>
         ensures { IfOk result (λ dues. dues ≡ replicate limit None) }
     {
         let users = vec![in alloc; None; limit as usize]?;
-        Ok(Dues { users })
+        let ends = MomentTable::new(alloc, limit)?;
+        Ok(Dues { users, ends })
     }
 
-    // What a user plays, if anything.
-    pub(crate) fn get(&self, user: u32) -> Option<Due>
-        ensures { result ≡ due_at self.now user }
+    // The first user behind this number whose iteration ends by the moment, and what it plays. None exactly
+    // where there is none.
+    pub(crate) fn first_due(&self, last: u32, moment: u64) -> Option<(u32, Due)>
+        ensures behind { IfSome result (λ found. last < found.0) }
+        ensures plays { IfSome result (λ found. due_at self.now found.0 ≡ Some found.1) }
+        ensures ends { IfSome result (λ found. found.1.end ≤ moment) }
+        ensures first { IfSome result (λ found. (user : ℕ) → last < user → user < found.0 → EndsLater self.now moment user) }
+        ensures none { IfNone result ((user : ℕ) → last < user → EndsLater self.now moment user) }
     {
-        let index = (user as usize).checked_sub(1)?;
-        *self.users.get(index)?
+        let index = self.ends.first_due(last, moment)?;
+        let due = self.users[index as usize]?;
+        Some((index + 1, due))
     }
 
     // The user plays this from now on.
@@ -65,6 +74,7 @@ impl Dues {
         ensures { self.new ≡ slice_set self.old (user - 1) (Some due) }
     {
         self.users[user as usize - 1] = Some(due);
+        self.ends.set(user - 1, Some(due.end));
     }
 
     // The user plays nothing from now on.
@@ -74,28 +84,13 @@ impl Dues {
         ensures { self.new ≡ slice_set self.old (user - 1) None }
     {
         self.users[user as usize - 1] = None;
+        self.ends.set(user - 1, None);
     }
 
     // The least moment at which an iteration ends, if one is under way.
     pub(crate) fn next_end(&self) -> Option<u64>
         ensures { result ≡ least_of (ends_of self.now) }
     {
-        let mut least = None;
-        for user in &self.users {
-            if let Some(due) = user {
-                least = Some(lesser(least, due.end));
-            }
-        }
-        least
-    }
-}
-
-// The lesser of a moment, if there is one, and another.
-pub(crate) fn lesser(moment: Option<u64>, other: u64) -> u64
-    ensures { result ≡ option_map_or (min other) moment other }
-{
-    match moment {
-        Some(moment) => moment.min(other),
-        None => other,
+        self.ends.least()
     }
 }

@@ -1,5 +1,8 @@
 // The stage of a rehearsal: the pool's core, the iterations under way, and the moment.
-use crate::due::{Due, Dues, lesser};
+ghost use Rattle.std.specs.Prelude.{◌≡◌, min};
+ghost use Rattle.std.specs.Option.{option_map_or};
+
+use crate::due::{Due, Dues};
 use crate::fault::RehearsalFault;
 use crate::full::FullJournal;
 use ld_base::{Ask, Reply, Stint, Tally};
@@ -143,14 +146,10 @@ impl Stage {
         ensures same { IsSameMoment self.old self.new }
         ensures acting { IsActing self.new }
     {
-        let limit = self.core.plan().users().limit;
-        for before in 0..limit {
-            let user = before + 1;
-            if let Some(due) = self.dues.get(user) {
-                if due.end <= self.moment {
-                    self.return_due(alloc, user, due);
-                }
-            }
+        let mut last = 0;
+        while let Some((user, due)) = self.dues.first_due(last, self.moment) {
+            self.return_due(alloc, user, due);
+            last = user;
         }
     }
 
@@ -199,6 +198,16 @@ impl Stage {
             }
             None => false,
         }
+    }
+}
+
+// The lesser of a moment, if there is one, and another.
+fn lesser(moment: Option<u64>, other: u64) -> u64
+    ensures { result ≡ option_map_or (min other) moment other }
+{
+    match moment {
+        Some(moment) => moment.min(other),
+        None => other,
     }
 }
 

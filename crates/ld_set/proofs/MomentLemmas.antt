@@ -1,12 +1,12 @@
 -- The leasts of the blocks of a table of moments, what the least of all tells, and numbers that are due.
-use Rattle.std.specs.Prelude.{◌≡◌, ◌+◌, ◌*◌, ◌/◌, ◌<◌, ◌≤◌, ℕ, true, false, min, List, Option, None, Some, IfNone, IfSome, length}
+use Rattle.std.specs.Prelude.{◌≡◌, ◌+◌, ◌*◌, ◌/◌, ◌<◌, ◌≤◌, ℕ, true, false, min, nat_le, List, Option, None, Some, IfNone, IfSome, length}
 use Rattle.std.specs.Int.{div_ceil}
 use Rattle.std.specs.List.{Contains}
-use Rattle.std.proofs.Common.{arith, ap, refl, sym, ◌∙◌, inl, inr, set, length-set, get_or-set_same, get_or-set_other}
+use Rattle.std.proofs.Common.{◌⊎◌, arith, ap, refl, sym, ◌∙◌, inl, inr, set, length-set, get_or-set_same, get_or-set_other}
 use Rattle.std.proofs.lemmas.Bool.{cases_eq, cases_lt, lt-ltb}
 use Rattle.std.proofs.lemmas.Grind.{common_steps}
 use Rattle.std.proofs.lemmas.List.{get_or_default, get_or_past}
-use Rattle.ld_set.specs.Moments.{comes_by, is_above, is_due, moment_at, IsFirstDue, IsKept, IsLeastAmong}
+use Rattle.ld_set.specs.Moments.{comes_by, is_above, is_by, is_due, lesser_of, moment_at, IsFirstDue, IsKept, IsLeastAmong}
 
 -- ---- one moment
 
@@ -79,6 +79,60 @@ kept_set moments leasts number moment least kept below is =
             rw (get_or-set_other leasts (number / 32) block least None apart)
             (least_same moments new (32 * block) (32 * block + 32) (moment_at leasts block)
             (λ k low high. get_or-set_other moments number k moment None (λ e. apart (omega arith))) (kept.each block))
+      ];
+    }
+
+-- ---- where one moment changes that wasn't the least of its range
+
+-- the lesser of two is one of them, and at most each
+lesser_one : (a b : Option ℕ) (m : ℕ) → lesser_of a b ≡ Some m → (a ≡ Some m) ⊎ (b ≡ Some m)
+lesser_one None b m is = inr is
+lesser_one (Some a) None m is = inl is
+lesser_one (Some a) (Some b) m is =
+    let least : min a b ≡ m = cc is in
+    elim (cases_lt a b) [ inl below ↦ inl (ap Some (omega arith)) | inr notbelow ↦ inr (ap Some (omega arith)) ]
+
+lesser_first : (b : Option ℕ) (l : ℕ) → (n : ℕ) × (lesser_of (Some l) b ≡ Some n) × (n ≤ l)
+lesser_first None l = (l, refl, omega arith)
+lesser_first (Some b) l = (min l b, refl, omega arith)
+
+lesser_second : (a : Option ℕ) (m : ℕ) → (n : ℕ) × (lesser_of a (Some m) ≡ Some n) × (n ≤ m)
+lesser_second None m = (m, refl, omega arith)
+lesser_second (Some a) m = (min a m, refl, omega arith)
+
+-- a moment that isn't by the least of its range is later than that
+later_than : (moments : List (Option ℕ)) (from to number m : ℕ) (least : Option ℕ) → IsLeastAmong moments None from to least →
+    from ≤ number → number < to → is_by (moment_at moments number) least ≡ false → moment_at moments number ≡ Some m →
+    least ≡ Some m → ⊥
+later_than moments from to number m least is low high late at same =
+    let by : is_by (Some m) (Some m) ≡ false = ap (λ (o : Option ℕ). is_by o (Some m)) (sym at) ∙ ap (is_by (moment_at moments number)) (sym same) ∙ late in
+    let self : nat_le m m ≡ true = grind (arith, common_steps) in absurd (cc (by, self))
+
+pub least_with : (moments : List (Option ℕ)) (from to number : ℕ) (moment least : Option ℕ) → IsLeastAmong moments None from to least →
+    number < length moments → from ≤ number → number < to → is_by (moment_at moments number) least ≡ false →
+    IsLeastAmong (set moments number moment) None from to (lesser_of least moment)
+least_with moments from to number moment least is below low high late =
+    let new = set moments number moment in
+    let here : moment_at new number ≡ moment = get_or-set_same moments number moment None below in
+    let others : (k : ℕ) → (k ≡ number → ⊥) → moment_at new k ≡ moment_at moments k = λ k apart. get_or-set_other moments number k moment None apart in
+    record {
+      there = λ m some. elim (lesser_one least moment m some) [
+        | inl old ↦
+            let at = is.there m old in
+            let apart : at.0 ≡ number → ⊥ = λ e. later_than moments from to number m least is low high late (rw e at at.3) old in
+            (at.0, at.1, at.2, others at.0 apart ∙ at.3, refl)
+        | inr new_one ↦ (number, low, high, here ∙ new_one, refl)
+      ];
+      each = λ k m from_k to_k at _. elim (cases_eq k number) [
+        | inl e ↦
+            let is_moment : moment ≡ Some m = sym here ∙ ap (moment_at new) (sym e) ∙ at in
+            rw is_moment (lesser_second least m)
+        | inr apart ↦
+            let old = is.each k m from_k to_k (sym (others k apart) ∙ at) refl in
+            let less = lesser_first moment old.0 in
+            let low_one : old.0 ≤ m = old.2 in
+            let lower : less.0 ≤ old.0 = less.2 in
+            (less.0, ap (λ (o : Option ℕ). lesser_of o moment) old.1 ∙ less.1, omega arith)
       ];
     }
 

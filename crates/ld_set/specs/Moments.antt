@@ -11,6 +11,11 @@ moment_at moments number = slice_index_or moments number None
 abbrev pub comes_by : ℕ → Option ℕ → Bool
 comes_by moment least = option_map_or (λ m. nat_le m moment) least false
 
+-- whether there are two moments, and the first is at most the second
+abbrev pub is_by : Option ℕ → Option ℕ → Bool
+is_by moment None = false
+is_by moment (Some least) = comes_by least moment
+
 -- whether the number has a moment that is at most this one
 abbrev pub is_due : List (Option ℕ) → ℕ → ℕ → Bool
 is_due moments moment number = comes_by moment (moment_at moments number)

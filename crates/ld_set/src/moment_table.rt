@@ -1,6 +1,6 @@
 ghost use Rattle.std.specs.Prelude.{◌≡◌, ◌+◌, ◌*◌, ◌<◌, ◌≤◌, ℕ, None, Some, false, true, IfNone, IfOk, IfSome, length, max, replicate, slice_set};
 ghost use Rattle.std.specs.List.{Contains};
-ghost use Rattle.ld_set.specs.Moments.{comes_by, is_due, kept_above, lesser_of, moment_at, IsFirstDue, IsLeastAmong};
+ghost use Rattle.ld_set.specs.Moments.{comes_by, is_by, is_due, kept_above, lesser_of, moment_at, IsFirstDue, IsLeastAmong};
 
 use std::alloc::{AllocError, Global};
 use std::marker::Model;
@@ -50,9 +50,16 @@ impl MomentTable {
         requires below { number < length self.old }
         ensures { self.new ≡ slice_set self.old number moment }
     {
-        self.moments[number as usize] = moment;
         let block = number as usize / 32;
-        self.leasts[block] = least_in(&self.moments, block, None);
+        let least = self.leasts[block];
+        let was_least = is_by(self.moments[number as usize], least);
+        self.moments[number as usize] = moment;
+        let new_least = if was_least {
+            least_in(&self.moments, block, None)
+        } else {
+            lesser(least, moment)
+        };
+        self.leasts[block] = new_least;
     }
 
     /// The least moment above the reading that a number has. None exactly where there is none.
@@ -197,6 +204,16 @@ fn comes_by(least: Option<u64>, moment: u64) -> bool
 {
     match least {
         Some(least) => least <= moment,
+        None => false,
+    }
+}
+
+// Whether there are two moments, and the first comes by the second.
+fn is_by(moment: Option<u64>, least: Option<u64>) -> bool
+    ensures { result ≡ is_by moment least }
+{
+    match least {
+        Some(least) => comes_by(moment, least),
         None => false,
     }
 }
