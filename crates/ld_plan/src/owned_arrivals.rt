@@ -153,7 +153,7 @@ impl OwnedArrivals {
     }
 
     // The owned arrivals, of which none was given.
-    pub fn ticker(&self, alloc: Global) -> Result<Ticker, PlanFault>
+    fn ticker(&self, alloc: Global) -> Result<Ticker, PlanFault>
         ensures arrivals { IfOk result (λ ticker. map arrival_of ticker ≡ executor_arrivals self.now.executor) }
         ensures memory { IfErr result (λ f. f ≡ Memory) }
     {

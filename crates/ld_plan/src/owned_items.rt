@@ -2,7 +2,6 @@ use crate::fault::PlanFault;
 use crate::owned_arrivals::{ConstantRate, OwnedArrivals};
 use crate::owned_part::OwnedPart;
 use crate::users::Users;
-use ld_arrival::Ticker;
 use ld_options::Executor;
 use ld_stripe::Stripe;
 use std::alloc::Global;
@@ -15,20 +14,18 @@ pub enum OwnedItems {
 }
 
 impl OwnedItems {
-    ghost use Rattle.std.specs.Prelude.{◌≡◌, ◌≢◌, ◌<◌, ◌≤◌, ◌↔◌, ℕ, IsTrue, IfOk, IfErr, Contains, length, map, sum};
+    ghost use Rattle.std.specs.Prelude.{◌≡◌, ◌≢◌, ◌<◌, ◌≤◌, ◌↔◌, IsTrue, IfOk, IfErr, Contains, length, sum};
     ghost use Rattle.ld_stripe.specs.Striping.{IsStriping};
     ghost use Rattle.ld_arrival.specs.Limits.{most_arrivals};
     ghost use Rattle.ld_arrival.specs.Timetable.{moment_of, planned_count};
     ghost use Rattle.ld_machine.specs.Plan.{owned_items};
     ghost use Rattle.ld_machine.specs.Requirement.{most_owned_users, owned_users};
-    ghost use Rattle.ld_machine.specs.Scenario.{executor_arrivals};
     ghost use Rattle.ld_options.specs.Ranges.{IsInRange};
     ghost use Rattle.ld_plan.specs.Executor.{timetable_of};
     ghost use Rattle.ld_plan.specs.OwnedItems.{AreDueAt, IsOwnedOf};
     ghost use Rattle.ld_plan.specs.OwnedPart.{executor_of};
     ghost use Rattle.ld_plan.specs.Part.{owned_view};
     ghost use Rattle.ld_plan.specs.PlanFault.{IsManyOf};
-    ghost use Rattle.ld_plan.specs.PlanView.{arrival_of};
     ghost use Rattle.ld_plan.specs.declared.fault.PlanFault.TheVariants.{Memory};
 
     // What a position owns of what the executor of the scenario of this number says. The positions have this striping.
@@ -128,16 +125,6 @@ impl OwnedItems {
     {
         match self {
             OwnedItems::Arrivals(arrivals) => arrivals.part(alloc),
-        }
-    }
-
-    // The owned arrivals, of which none was given.
-    pub fn ticker(&self, alloc: Global) -> Result<Ticker, PlanFault>
-        ensures arrivals { IfOk result (λ ticker. map arrival_of ticker ≡ executor_arrivals (owned_view self.now).executor) }
-        ensures memory { IfErr result (λ f. f ≡ Memory) }
-    {
-        match self {
-            OwnedItems::Arrivals(arrivals) => arrivals.ticker(alloc),
         }
     }
 }

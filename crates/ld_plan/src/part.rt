@@ -5,7 +5,6 @@ use crate::fault::PlanFault;
 use crate::owned_items::OwnedItems;
 use crate::owned_part::OwnedPart;
 use crate::row::Row;
-use ld_arrival::Ticker;
 use ld_base::Text;
 use ld_options::Scenario;
 use ld_stripe::Stripe;
@@ -35,7 +34,7 @@ impl Model for Part {
 }
 
 impl Part {
-    ghost use Rattle.std.specs.Prelude.{◌≡◌, ◌≢◌, ◌<◌, ◌≤◌, ◌↔◌, ℕ, IsTrue, IfOk, IfErr, Contains, length, map, sum};
+    ghost use Rattle.std.specs.Prelude.{◌≡◌, ◌≢◌, ◌<◌, ◌≤◌, ◌↔◌, IsTrue, IfOk, IfErr, Contains, length, sum};
     ghost use Rattle.ld_stripe.specs.Striping.{IsStriping};
     ghost use Rattle.ld_arrival.specs.Limits.{most_arrivals};
     ghost use Rattle.ld_arrival.specs.Timetable.{moment_of, planned_count};
@@ -48,7 +47,6 @@ impl Part {
     ghost use Rattle.ld_plan.specs.OwnedPart.{executor_of};
     ghost use Rattle.ld_plan.specs.PartView.{PartView};
     ghost use Rattle.ld_plan.specs.PlanFault.{IsManyOf};
-    ghost use Rattle.ld_plan.specs.PlanView.{arrival_of};
     ghost use Rattle.ld_plan.specs.Row.{row_of};
     ghost use Rattle.ld_plan.specs.declared.fault.PlanFault.TheVariants.{Memory};
 
@@ -159,13 +157,5 @@ impl Part {
         ensures memory { IfErr result (λ f. f ≡ Memory) }
     {
         self.owned.part(alloc)
-    }
-
-    // The owned arrivals, of which none was given.
-    pub fn ticker(&self, alloc: Global) -> Result<Ticker, PlanFault>
-        ensures arrivals { IfOk result (λ ticker. map arrival_of ticker ≡ executor_arrivals self.now.part.executor) }
-        ensures memory { IfErr result (λ f. f ≡ Memory) }
-    {
-        self.owned.ticker(alloc)
     }
 }

@@ -4,7 +4,6 @@ use crate::owned_part::OwnedPart;
 use crate::part::Part;
 use crate::row::Row;
 use crate::users::Users;
-use ld_arrival::Ticker;
 use ld_base::Text;
 use ld_options::Options;
 use ld_segment::{Segment, Sequence};
@@ -40,7 +39,7 @@ impl Model for Plan {
 }
 
 impl Plan {
-    ghost use Rattle.std.specs.Prelude.{◌≡◌, ◌≢◌, ◌<◌, ◌≤◌, ◌↔◌, ℕ, Some, IsTrue, IfOk, IfErr, IsSomeAnd, Contains, length, map, slice_get};
+    ghost use Rattle.std.specs.Prelude.{◌≡◌, ◌≢◌, ◌<◌, ◌≤◌, ◌↔◌, Some, IsTrue, IfOk, IfErr, IsSomeAnd, Contains, length, slice_get};
     ghost use Rattle.ld_segment.specs.Points.{IsFilled};
     ghost use Rattle.ld_segment.specs.Segments.{segments_of};
     ghost use Rattle.ld_arrival.specs.Limits.{most_arrivals};
@@ -52,12 +51,10 @@ impl Plan {
     ghost use Rattle.ld_machine.specs.Told.{users_fit};
     ghost use Rattle.ld_machine.specs.WellTimed.{WellTimed};
     ghost use Rattle.ld_plan.specs.OwnedPart.{executor_of};
-    ghost use Rattle.ld_plan.specs.PartView.{PartView};
     ghost use Rattle.ld_plan.specs.Plan.{IsMade};
     ghost use Rattle.ld_plan.specs.PlanFault.{IsAccepted, IsRefusal};
     ghost use Rattle.ld_options.specs.Ranges.{most_users};
     ghost use Rattle.ld_plan.specs.IsPlanOf.{IsPlanOf};
-    ghost use Rattle.ld_plan.specs.PlanView.{Whole, arrival_of};
     ghost use Rattle.ld_machine.specs.Requirement.{IsRequirement};
     ghost use Rattle.ld_machine.specs.ValidPlan.{IsValidPlan};
     ghost use Rattle.ld_plan.specs.Row.{row_of};
@@ -248,17 +245,5 @@ impl Plan {
         ensures memory { IfErr result (λ f. f ≡ Memory) }
     {
         self.part(scenario).owned_part(alloc)
-    }
-
-    /// A ticker of the arrivals that the instance owns of a scenario, of which none was given.
-    ///
-    /// Fails where there is no memory for them.
-    pub fn ticker(&self, alloc: Global, scenario: u16) -> Result<Ticker, PlanFault>
-        requires { scenario < length self.now.plan.parts }
-        ensures arrivals { IfOk result (λ ticker. IsSomeAnd (slice_get self.now.plan.parts scenario)
-            (λ part. map arrival_of ticker ≡ executor_arrivals part.executor)) }
-        ensures memory { IfErr result (λ f. f ≡ Memory) }
-    {
-        self.part(scenario).ticker(alloc)
     }
 }

@@ -2,8 +2,9 @@
 
 use crate::tests::arrivals::next_of;
 use crate::tests::table::{Call, add, check, first_word, may_cross, named, number, said, text_of};
+use ld_arrival::Ticker;
 use ld_options::Options;
-use ld_plan::{Plan, PlanFault, Row};
+use ld_plan::{OwnedPart, Plan, PlanFault, Row};
 use ld_segment::{Segment, Sequence};
 use std::alloc::Global;
 use std::test::Fail;
@@ -210,10 +211,16 @@ impl Call for Ticks {
 // What the ticker of a plan's first scenario gives.
 fn ticks_told(alloc: Global, plan: &Plan) -> Result<String, Fail> {
     let _ = plan.scenarios();
-    let mut ticker = plan.ticker(alloc, 0)?;
+    match plan.owned_part(alloc, 0)? {
+        OwnedPart::Rates { mut ticker, .. } => ticker_told(alloc, &mut ticker),
+    }
+}
+
+// The first three arrivals that a ticker gives.
+fn ticker_told(alloc: Global, ticker: &mut Ticker) -> Result<String, Fail> {
     let mut line = String::new(alloc);
     for _ in 0..3 {
-        add(&mut line, next_of(alloc, &mut ticker)?)?;
+        add(&mut line, next_of(alloc, ticker)?)?;
     }
     Ok(line)
 }
