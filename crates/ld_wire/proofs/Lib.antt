@@ -12,3 +12,6 @@ pub mod StayLemmas
 pub mod TrailerLemmas
 pub mod StandingLemmas
 pub mod SizeLemmas
+pub mod TrailerStepLemmas
+pub mod ChunkStepLemmas
+pub mod HandedLemmas

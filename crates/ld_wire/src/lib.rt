@@ -5,6 +5,7 @@
 //! that stand here; the reader itself isn't there yet.
 #![tactic(auto)]
 
+mod chunks;
 mod data;
 mod fault;
 mod feed_laws;
@@ -20,6 +21,7 @@ mod request;
 mod size;
 mod size_step;
 mod trailer;
+mod trailer_step;
 
 pub use fault::WireFault;
 pub use feed_laws::{heads_as_examples, more_bytes, one_refusal, one_response};
