@@ -15,3 +15,6 @@ pub mod SizeLemmas
 pub mod TrailerStepLemmas
 pub mod ChunkStepLemmas
 pub mod HandedLemmas
+pub mod BodyLemmas
+pub mod HeadStepLemmas
+pub mod HeadsLemmas

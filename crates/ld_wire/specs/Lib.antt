@@ -6,4 +6,6 @@ pub mod Chunks
 pub mod Response
 pub mod Trailer
 pub mod Found
+pub mod Heads
 pub mod Standing
+pub mod Body

@@ -5,6 +5,8 @@
 //! that stand here; the reader itself isn't there yet.
 #![tactic(auto)]
 
+mod body;
+mod body_place;
 mod chunks;
 mod data;
 mod fault;
@@ -12,7 +14,9 @@ mod feed_laws;
 mod follows;
 mod framing;
 mod head;
+mod head_step;
 mod headers;
+mod heads;
 mod laws;
 mod length;
 mod order;
