@@ -18,3 +18,4 @@ pub mod HandedLemmas
 pub mod BodyLemmas
 pub mod HeadStepLemmas
 pub mod HeadsLemmas
+pub mod AdvanceLemmas

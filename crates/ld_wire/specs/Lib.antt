@@ -9,3 +9,6 @@ pub mod Found
 pub mod Heads
 pub mod Standing
 pub mod Body
+pub mod Reader
+pub mod ReaderView
+pub mod Kept

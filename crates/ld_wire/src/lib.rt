@@ -5,11 +5,13 @@
 //! that stand here; the reader itself isn't there yet.
 #![tactic(auto)]
 
+mod advance;
 mod body;
 mod body_place;
 mod chunks;
 mod data;
 mod fault;
+mod feed;
 mod feed_laws;
 mod follows;
 mod framing;
@@ -20,14 +22,19 @@ mod heads;
 mod laws;
 mod length;
 mod order;
+mod outcome;
 mod place;
+mod reader;
 mod request;
 mod size;
 mod size_step;
+mod stage;
 mod trailer;
 mod trailer_step;
 
 pub use fault::WireFault;
+pub use feed::Feed;
 pub use feed_laws::{heads_as_examples, more_bytes, one_refusal, one_response};
 pub use laws::{content_framed, one_order, request_read_back};
+pub use reader::ResponseReader;
 pub use request::request_text;
