@@ -140,3 +140,18 @@ advances_behind stages.Whole used more count heads held body bytes piece rest in
     let number : length ((bytes ++ take used piece) ++ []) + more ≡ length bytes + count = omega arith in
     (omega arith, is.1, subst P (same_bytes bytes piece rest used same) (subst Q number is.2), is.3)
 advances_behind (stages.Refused fault) used more count heads held body bytes piece rest inside same counted is = absurd is
+
+pub refused_start : (for_head same_head : Bool) (bytes piece rest : List ℕ) (used : ℕ) (fault : WireFault) → rest ≡ drop used piece
+    → for_head ≡ same_head → Refuses for_head (((bytes ++ take used piece) ++ []) ++ rest) fault → Refuses same_head (bytes ++ piece) fault
+refused_start for_head same_head bytes piece rest used fault same heads refuses =
+    let P : List ℕ → Type 0 = λ t. Refuses same_head t fault in
+    let Q : Bool → Type 0 = λ b. Refuses b (((bytes ++ take used piece) ++ []) ++ rest) fault in
+    subst P (same_bytes bytes piece rest used same) (subst Q heads refuses)
+
+-- where nothing of a body came yet
+pub stands_empty : (framing : Follows) (place : BodyPlace) (held body : List ℕ) → held ≡ [] → body ≡ []
+    → BodyStands framing place [] [] [] → BodyStands framing place held body []
+stands_empty framing place held body no_held no_body stands =
+    let P : List ℕ → Type 0 = λ t. BodyStands framing place t [] [] in
+    let Q : List ℕ → Type 0 = λ t. BodyStands framing place held t [] in
+    subst Q (sym no_body) (subst P (sym no_held) stands)

@@ -19,3 +19,6 @@ pub mod BodyLemmas
 pub mod HeadStepLemmas
 pub mod HeadsLemmas
 pub mod AdvanceLemmas
+pub mod OpenChunkLemmas
+pub mod OpenLemmas
+pub mod ReaderLemmas

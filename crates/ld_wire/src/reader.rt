@@ -100,11 +100,15 @@ impl ResponseReader {
         match self.stage {
             Stage::Refused(fault) => Err(fault),
             Stage::Whole => Ok(()),
-            Stage::Body(BodyPlace::Close) => {
-                self.stage = Stage::Whole;
-                Ok(())
+            Stage::Head => {
+                self.stage = Stage::Refused(WireFault::CutShort);
+                Err(WireFault::CutShort)
             }
-            Stage::Head | Stage::Body(_) => {
+            Stage::Body(place) => {
+                if place == BodyPlace::Close {
+                    self.stage = Stage::Whole;
+                    return Ok(());
+                }
                 self.stage = Stage::Refused(WireFault::CutShort);
                 Err(WireFault::CutShort)
             }
