@@ -1,16 +1,14 @@
 -- A response from its heads to its body.
-use Rattle.std.proofs.Common.{◌≡◌, ◌≢◌, ◌<◌, ◌≤◌, ◌+◌, ◌-◌, ◌∙◌, ℕ, Bool, true, false, inl, inr, List, [], ◌∷◌, ◌++◌, length, take, drop, arith, ap, sym, subst, refl, append_assoc, append-nil, Result, Ok, Err}
+use Rattle.std.proofs.Common.{◌≡◌, ◌≢◌, ◌≤◌, ◌+◌, ◌∙◌, ℕ, Bool, false, inl, List, [], ◌++◌, length, take, drop, arith, ap, sym, subst, refl, append_assoc, append-nil, Result}
 use Rattle.std.proofs.lemmas.List.{length-append, length-take-le, take_all, take-append-drop}
 use Rattle.std.proofs.Math.Seq.{take-append-add}
-use Rattle.httparse.specs.Grammar.{print_response, status_code}
-use Rattle.ld_wire.specs.Body.{BodyStands, BodyTakes}
-use Rattle.ld_wire.specs.Head.{follows_head, headers_of}
-use Rattle.ld_wire.specs.Heads.{BehindHead, HeadsStand, HeadsView, InHead}
-use Rattle.ld_wire.specs.Reader.{AdvancesTo, FedAt, HasRead, InBody, stage_of}
-use Rattle.ld_wire.specs.Response.{Begins, BodyRefuses, FollowedBy, IsResponse, Refuses, Response, print_heads}
+use Rattle.httparse.specs.Grammar.{print_response}
+use Rattle.ld_wire.specs.Body.{BodyStands}
+use Rattle.ld_wire.specs.Heads.{BehindHead, HeadsStand, HeadsView}
+use Rattle.ld_wire.specs.Reader.{AdvancesTo, FedAt, InBody, stage_of}
+use Rattle.ld_wire.specs.Response.{Begins, BodyRefuses, FollowedBy, IsResponse, Refuses, print_heads}
 use Rattle.ld_wire.specs.declared.body_place.BodyPlace.{BodyPlace}
 use Rattle.ld_wire.specs.declared.body_place.BodyPlace.TheVariants as places
-use Rattle.ld_wire.specs.declared.body_place.BodyStep.{BodyStep}
 use Rattle.ld_wire.specs.declared.fault.WireFault.{WireFault}
 use Rattle.ld_wire.specs.declared.framing.Follows.{Follows}
 use Rattle.ld_wire.specs.declared.framing.Follows.TheVariants as framings

@@ -1,7 +1,7 @@
 -- A body, some bytes more at a time, by its framing.
-use Rattle.std.proofs.Common.{◌≡◌, ◌≢◌, ◌<◌, ◌≤◌, ◌+◌, ◌-◌, ◌∙◌, ℕ, Bool, false, List, [], ◌++◌, length, take, arith, ap, sym, subst, refl, append-nil}
+use Rattle.std.proofs.Common.{◌≡◌, ◌<◌, ◌≤◌, ◌+◌, ◌-◌, ◌∙◌, ℕ, false, List, [], ◌++◌, length, take, arith, ap, sym, subst, refl, append-nil}
 use Rattle.std.proofs.lemmas.List.{length-append, length-take-le, take_all}
-use Rattle.ld_wire.specs.Body.{BodyStands, BodyTakes, InBytes, InClose}
+use Rattle.ld_wire.specs.Body.{BodyTakes, InBytes, InClose}
 use Rattle.ld_wire.specs.Head.{body_limit}
 use Rattle.ld_wire.specs.Response.{IsBody}
 use Rattle.ld_wire.specs.Standing.{InSize}
@@ -9,7 +9,7 @@ use Rattle.ld_wire.specs.declared.body_place.BodyPlace.{BodyPlace}
 use Rattle.ld_wire.specs.declared.body_place.BodyPlace.TheVariants as places
 use Rattle.ld_wire.specs.declared.body_place.BodyStep.{BodyStep}
 use Rattle.ld_wire.specs.declared.framing.Follows.{Follows}
-use Rattle.ld_wire.specs.declared.framing.Follows.TheVariants.{Bytes, Chunks, Close}
+use Rattle.ld_wire.specs.declared.framing.Follows.TheVariants.{Bytes, Close}
 use Rattle.ld_wire.proofs.StandingLemmas.{size_may_come}
 
 abbrev pub body_step : ℕ → BodyPlace → BodyStep

@@ -1,14 +1,14 @@
 -- The heads of a response, one more at a time.
-use Rattle.std.proofs.Common.{rules, ◌≡◌, ◌<◌, ◌≤◌, ◌+◌, ◌-◌, ◌∙◌, ℕ, Bool, inl, inr, None, List, [], ◌∷◌, ◌++◌, length, map, take, drop, arith, ap, ap₂, sym, subst, refl, append_assoc, append-nil, Result, Ok, Err}
+use Rattle.std.proofs.Common.{rules, ◌≡◌, ◌≤◌, ◌+◌, ◌∙◌, ℕ, Bool, inl, inr, None, List, [], ◌∷◌, ◌++◌, length, map, take, drop, arith, ap, ap₂, sym, subst, refl, append_assoc, append-nil, Result, Ok, Err}
 use Rattle.std.proofs.lemmas.List.{length-append, length-map, length-take-le}
 use Rattle.std.proofs.lemmas.List.Elements.{All-nil}
-use Rattle.httparse.specs.Grammar.{Field, IsField, ResponseHead, IsResponseHead, HasNoResponse, MayBecomeResponse, lf, print_end, print_response, print_section, print_blank, print_version, print_reason, status_code}
+use Rattle.httparse.specs.Grammar.{IsField, ResponseHead, HasNoResponse, MayBecomeResponse, lf, print_end, print_response, print_section, print_blank, print_version, print_reason}
 use Rattle.httparse.specs.Spans.{header_bytes}
 use Rattle.httparse.specs.declared.spans.HeaderSpan.{HeaderSpan}
 use Rattle.httparse.specs.declared.spans.ResponseSpans.{ResponseSpans}
 use Rattle.ld_wire.specs.Found.{IsOpenHead, header_room}
-use Rattle.ld_wire.specs.Head.{IsHead, follows, follows_head, headers_of}
-use Rattle.ld_wire.specs.Heads.{HasRoom, HeadEnds, HeadsStand, HeadsStep, HeadsView, InHead, IsFound, heads_view}
+use Rattle.ld_wire.specs.Head.{IsHead, follows, follows_head}
+use Rattle.ld_wire.specs.Heads.{HasRoom, HeadsStand, HeadsStep, HeadsView, InHead, IsFound, heads_view}
 use Rattle.ld_wire.specs.Response.{AreInterims, FollowedBy, HasHeadFault, Refuses, print_heads}
 use Rattle.ld_wire.specs.declared.fault.WireFault.{WireFault}
 use Rattle.ld_wire.specs.declared.framing.Follows.{Follows}

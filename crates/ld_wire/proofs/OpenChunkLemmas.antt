@@ -1,13 +1,13 @@
 -- A body in chunks that isn't whole yet: no front of it is a whole one, and it has no fault.
-use Rattle.std.proofs.Common.{◌≡◌, ◌≢◌, ◌<◌, ◌≤◌, ◌⊎◌, ◌+◌, ◌∙◌, ℕ, zero, suc, List, [], ◌∷◌, ◌++◌, length, take, drop, arith, ap, sym, subst, refl, append_assoc, append-nil, inl, inr}
+use Rattle.std.proofs.Common.{◌≡◌, ◌≢◌, ◌<◌, ◌≤◌, ◌⊎◌, ◌+◌, ◌∙◌, ℕ, zero, suc, List, [], ◌∷◌, ◌++◌, length, arith, ap, sym, subst, refl, append_assoc, append-nil, inl, inr}
 use Rattle.std.specs.List.{AllByRecursion}
 use Rattle.std.proofs.lemmas.List.{length-append, take_all}
 use Rattle.httparse.specs.Ascii.{crlf_bytes}
 use Rattle.httparse.specs.Grammar.{ChunkLine, NeverHasChunkLine, print_chunk_line, chunk_size}
-use Rattle.ld_wire.specs.Chunks.{Chunk, ChunksRefuse, HasBadRest, HasBadSize, HasLongTrailer, IsChunk, IsChunked, IsNoEnd, IsSizeLine, IsTrailer, LineRefuses, carried, print_chunk, print_chunks, size_line_limit}
+use Rattle.ld_wire.specs.Chunks.{Chunk, ChunksRefuse, HasBadRest, HasBadSize, IsChunk, IsChunked, IsNoEnd, IsSizeLine, IsTrailer, LineRefuses, carried, print_chunk, print_chunks, size_line_limit}
 use Rattle.ld_wire.specs.Found.{IsOpenSize}
 use Rattle.ld_wire.specs.Head.{body_limit}
-use Rattle.ld_wire.specs.Standing.{InData, InEnd, InSize, InTrailer, StandsAt}
+use Rattle.ld_wire.specs.Standing.{InData, InEnd, StandsAt}
 use Rattle.ld_wire.specs.Trailer.{IsTrailerSoFar}
 use Rattle.ld_wire.specs.declared.fault.WireFault.{WireFault}
 use Rattle.ld_wire.specs.declared.fault.WireFault.TheVariants.{BadChunk, BodyTooLong}
@@ -15,7 +15,7 @@ use Rattle.ld_wire.specs.declared.place.ChunkPlace.{ChunkPlace}
 use Rattle.ld_wire.specs.declared.place.ChunkPlace.TheVariants.{Size, Data, Return, Feed, Trailer, Whole}
 use Rattle.ld_wire.specs.declared.trailer.LineSoFar.{LineSoFar}
 use Rattle.ld_wire.proofs.ChainLemmas.{after, chain_unique}
-use Rattle.ld_wire.proofs.ChunkLemmas.{IsLast, Item, behind_chunks, behind_line, carried_short, chain_of_chunks, chunks_unique, front_unique, last_end, more_bytes, total_behind, why_last}
+use Rattle.ld_wire.proofs.ChunkLemmas.{IsLast, Item, behind_chunks, behind_line, carried_short, chain_of_chunks, chunks_unique, front_unique, last_end, more_bytes, why_last}
 use Rattle.ld_wire.proofs.PieceLemmas.{no_size, size_unique}
 use Rattle.ld_wire.proofs.TrailerLemmas.{no_front}
 

@@ -1,19 +1,19 @@
 -- A response that isn't whole yet: the bytes so far begin with no whole one, and have no fault.
-use Rattle.std.proofs.Common.{◌≡◌, ◌≢◌, ◌<◌, ◌≤◌, ◌⊎◌, ◌+◌, ◌∙◌, ℕ, Bool, true, false, List, [], ◌∷◌, ◌++◌, length, take, drop, arith, ap, ap₂, sym, subst, refl, append_assoc, append-nil, inl, inr, Result, Ok, Err}
+use Rattle.std.proofs.Common.{◌≡◌, ◌≢◌, ◌⊎◌, ◌∙◌, ℕ, Bool, true, false, List, [], ◌++◌, length, take, drop, arith, ap, ap₂, sym, subst, refl, append_assoc, append-nil, inl, inr, Result, Ok, Err}
 use Rattle.std.specs.Prelude.{IsTrue}
 use Rattle.std.proofs.lemmas.List.{length-append, take_all, take-append-drop}
-use Rattle.httparse.specs.Grammar.{ResponseHead, NeverHasResponse, HasNoResponse, print_response}
+use Rattle.httparse.specs.Grammar.{ResponseHead, NeverHasResponse, print_response}
 use Rattle.ld_wire.specs.Body.{BodyStands}
 use Rattle.ld_wire.specs.Found.{IsOpenHead}
-use Rattle.ld_wire.specs.Head.{IsHead, body_limit, follows_head, head_limit}
+use Rattle.ld_wire.specs.Head.{IsHead, follows_head, head_limit}
 use Rattle.ld_wire.specs.Heads.{BehindHead, HeadsView, InHead}
 use Rattle.ld_wire.specs.Reader.{InBody, IsCut, IsOpen}
-use Rattle.ld_wire.specs.Response.{Begins, BodyRefuses, FollowedBy, HasHeadFault, HeadRefuses, IsBody, IsResponse, Refuses, Response, print_heads}
+use Rattle.ld_wire.specs.Response.{BodyRefuses, FollowedBy, HasHeadFault, HeadRefuses, IsBody, IsResponse, Refuses, Response, print_heads}
 use Rattle.ld_wire.specs.declared.body_place.BodyPlace.{BodyPlace}
 use Rattle.ld_wire.specs.declared.body_place.BodyPlace.TheVariants as places
 use Rattle.ld_wire.specs.declared.fault.WireFault.{WireFault}
 use Rattle.ld_wire.specs.declared.framing.Follows.{Follows}
-use Rattle.ld_wire.specs.declared.framing.Follows.TheVariants.{Head, Nothing, Bytes, Chunks, Close}
+use Rattle.ld_wire.specs.declared.framing.Follows.TheVariants.{Head}
 use Rattle.ld_wire.proofs.ChainLemmas.{after, chain_unique}
 use Rattle.ld_wire.proofs.OpenChunkLemmas.{open_chunks, open_unfinished, open_unrefused}
 use Rattle.ld_wire.proofs.PieceLemmas.{head_unique}

@@ -1,13 +1,12 @@
 -- What a reader answers, and where it then stands.
-use Rattle.std.proofs.Common.{◌≡◌, ◌≢◌, ◌<◌, ◌≤◌, ◌⊎◌, ◌+◌, ◌-◌, ◌∙◌, ℕ, Bool, true, false, List, [], ◌∷◌, ◌++◌, length, arith, ap, sym, subst, refl, inl, inr, Result, Ok, Err}
-use Rattle.std.specs.Prelude.{IfErr, IfOk, IsTrue}
-use Rattle.httparse.specs.Grammar.{print_response}
+use Rattle.std.proofs.Common.{◌≡◌, ◌≢◌, ◌≤◌, ◌+◌, ◌-◌, ◌∙◌, ℕ, Bool, true, false, List, ◌++◌, length, arith, sym, subst, refl, inl, inr, Result, Ok, Err}
+use Rattle.std.specs.Prelude.{IfErr, IfOk}
 use Rattle.ld_wire.specs.Body.{BodyStands}
 use Rattle.ld_wire.specs.Heads.{BehindHead, HeadsView, InHead, heads_view}
 use Rattle.ld_wire.specs.Kept.{reader_view}
 use Rattle.ld_wire.specs.Reader.{AdvancesTo, FedAt, HasFault, HasRead, InBody, IsOpen, IsWhole, feed_at, feed_of, stage_behind, with_piece}
 use Rattle.ld_wire.specs.ReaderView.{Answers, IsFed, ReaderView}
-use Rattle.ld_wire.specs.Response.{Begins, IsBody, IsResponse, Refuses, Response, print_heads}
+use Rattle.ld_wire.specs.Response.{IsBody, IsResponse, Refuses, Response}
 use Rattle.ld_wire.specs.declared.body_place.BodyPlace.{BodyPlace}
 use Rattle.ld_wire.specs.declared.body_place.BodyPlace.TheVariants as places
 use Rattle.ld_wire.specs.declared.fault.WireFault.{WireFault}
@@ -197,8 +196,7 @@ close_ends heads held body bytes is =
 pub ended_body : (place : BodyPlace) (heads : HeadsView) (held body : List ℕ) (ended : Bool) (bytes : List ℕ) → place ≡ places.Close
     → FedAt (stages.Body place) heads held body ended bytes → FedAt stages.Whole heads held body true bytes
 ended_body place heads held body ended bytes same is =
-    let P : BodyPlace → Type 0 = λ p. InBody p heads held body bytes in
-    (
+    let P : BodyPlace → Type 0 = λ p. InBody p heads held body bytes in (
       length bytes,
       record { status = heads.status; headers = heads.headers; body = body },
       inr (refl, refl, close_ends heads held body bytes (subst P same is.1)),

@@ -1,7 +1,6 @@
 -- What a reader of a response was fed, where it then stands, and what it answers.
-use Rattle.std.specs.Prelude.{◌≡◌, ◌≢◌, ◌≤◌, ◌⊎◌, ◌+◌, ◌-◌, ℕ, Bool, IsTrue, not, List, [], ◌++◌, length, if◌then◌else◌, Result, Ok, Err}
+use Rattle.std.specs.Prelude.{◌≡◌, ◌≢◌, ◌≤◌, ◌⊎◌, ◌+◌, ℕ, Bool, IsTrue, List, [], ◌++◌, length, if◌then◌else◌, Result, Ok, Err}
 use Rattle.ld_wire.specs.Body.{BodyStands}
-use Rattle.ld_wire.specs.Head.{Header}
 use Rattle.ld_wire.specs.Heads.{BehindHead, HeadsView, InHead}
 use Rattle.ld_wire.specs.Response.{Begins, IsResponse, Refuses, Response}
 use Rattle.ld_wire.specs.declared.body_place.BodyPlace.{BodyPlace}

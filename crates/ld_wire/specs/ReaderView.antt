@@ -1,5 +1,5 @@
 -- A reader of a response, as it is seen.
-use Rattle.std.specs.Prelude.{◌≡◌, ◌≢◌, ◌-◌, ℕ, Bool, IsTrue, not, List, Result, Ok, Err}
+use Rattle.std.specs.Prelude.{◌≡◌, ◌≢◌, ◌-◌, ℕ, Bool, List, Result, Ok, Err}
 use Rattle.ld_wire.specs.Heads.{HeadsView}
 use Rattle.ld_wire.specs.Reader.{FedAt, HasFault, HasRead, IsOpen, IsWhole}
 use Rattle.ld_wire.specs.Response.{Response}

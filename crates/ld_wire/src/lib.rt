@@ -1,8 +1,8 @@
 //! What is sent over a link, and what comes back: the text of a request (RFC 9112), and what a response is.
 //!
 //! `specs/Request.antt` says the text of a request, line by line, and `specs/Response.antt` the grammar of
-//! responses and what is refused of bytes that are none. What reads one, in any pieces, is built of the steps
-//! that stand here; the reader itself isn't there yet.
+//! responses and what is refused of bytes that are none. A reader of one, `ResponseReader`, is fed bytes in any
+//! pieces, and answers what these definitions say of all of them: `specs/ReaderView.antt`.
 #![tactic(auto)]
 
 mod advance;

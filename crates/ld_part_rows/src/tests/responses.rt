@@ -123,13 +123,13 @@ GET?x-none HTTP/1.1 200 OK\r\nX-Powered-By: Express\r\nContent-Type: application
 GET?a HTTP/1.1 200 OK\r\na: 1\r\nA: 2\r\nContent-Length: 0\r\n\r\n => Whole 50 200 "" Some("1")"#;
 
 // The limits: 65,536 bytes of a head and of a trailer, 4,096 of a size line and 16,777,216 of a body.
-const LIMITS: &str =
-    r#"GET HTTP/1.1 200 OK\r\na: <b*65512>\r\n\r\n => Again 200
+const LIMITS: &str = r#"GET HTTP/1.1 200 OK\r\na: <b*65512>\r\n\r\n => Again 200
 GET HTTP/1.1 200 OK\r\na: <b*65513>\r\n\r\n => HeadTooLong 0
 GET HTTP/1.1 200 OK\r\na: <b*70000> => HeadTooLong 0
 GET <\r\n*32768> => HeadTooLong 0
 GET <\r\n*32767>H => Again 0
-GET <\r\n*32767>HH => HeadTooLong 0
+GET <\r\n*32767>HT => HeadTooLong 0
+GET <\r\n*32767>HH => BadHead 0
 GET HTTP/1.1 200 OK\r\nTransfer-Encoding: chunked\r\n\r\n1;<x*4092>\r\n => Again 200
 GET HTTP/1.1 200 OK\r\nTransfer-Encoding: chunked\r\n\r\n1;<x*4093>\r\n => BadChunk 200
 GET HTTP/1.1 200 OK\r\nTransfer-Encoding: chunked\r\n\r\n0\r\n<a\r\n*21844>aa\r\n => Again 200
@@ -192,9 +192,9 @@ fn fed(reader: &mut ResponseReader, bytes: &[u8], size: usize) -> Result<Option<
     let mut before = 0;
     for piece in bytes.chunks(size) {
         if let Feed::Whole { used } = reader.feed(piece)? {
-            return Ok(Some(before + used));
+            return Ok(Some(used.saturating_add(before)));
         }
-        before += piece.len();
+        before = piece.len().saturating_add(before);
     }
     Ok(None)
 }
@@ -215,12 +215,7 @@ fn read(
 }
 
 // What a reader tells of the whole response: how long it was, its status, its body and a header's value.
-fn told(
-    alloc: Global,
-    reader: &ResponseReader,
-    length: usize,
-    name: &str,
-) -> Result<String, Fail> {
+fn told(alloc: Global, reader: &ResponseReader, length: usize, name: &str) -> Result<String, Fail> {
     let mut line = format!(in alloc; "Whole {length} {}", reader.status())?;
     add(&mut line, named(alloc, text_of(reader.body()))?)?;
     if !name.is_empty() {
@@ -236,7 +231,10 @@ fn told(
 fn answer(alloc: Global, row: &str, size: usize) -> Result<String, Fail> {
     let (words, text) = row.split_once(' ').unwrap_or((row, ""));
     let ended = words.ends_with('!');
-    let (method, name) = words.trim_end_matches('!').split_once('?').unwrap_or((words, ""));
+    let (method, name) = words
+        .trim_end_matches('!')
+        .split_once('?')
+        .unwrap_or((words, ""));
     let Ok(mut reader) = ResponseReader::new(alloc, method == "HEAD" || method == "HEAD!") else {
         return Ok(String::from_str(alloc, "no memory")?);
     };

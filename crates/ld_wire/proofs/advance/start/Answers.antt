@@ -1,5 +1,4 @@
-use Rattle.std.proofs.Common.{rules, ◌≡◌, ◌≢◌, ◌≤◌, ◌+◌, ◌++◌, ◌∙◌, ℕ, List, [], length, take, drop, arith, ap, sym, subst}
-use Rattle.ld_wire.specs.Body.{BodyStands}
+use Rattle.std.proofs.Common.{rules, ◌≡◌, ◌≢◌, ◌≤◌, ◌+◌, ◌++◌, [], length, take, drop}
 use Rattle.ld_wire.specs.Heads.{BehindHead, heads_view}
 use Rattle.ld_wire.specs.declared.framing.Follows.TheVariants.{Head}
 use Rattle.ld_wire.proofs.AdvanceLemmas.{advances_behind, at_body, refused_start, stands_empty}

@@ -1,4 +1,4 @@
-use Rattle.std.proofs.Common.{rules, ◌≡◌, ◌≤◌, ◌+◌, ◌-◌, ◌++◌, ◌∙◌, ℕ, List, Option, length, take, drop, sym, subst, arith}
+use Rattle.std.proofs.Common.{rules, ◌≡◌, ◌-◌, ◌++◌, ◌∙◌, ℕ, List, Option, length, take, sym, subst, arith}
 use Rattle.std.specs.Prelude.{IfSome}
 use Rattle.httparse.specs.Spans.{IsResponseOf, IsResponseWithin}
 use Rattle.httparse.specs.declared.spans.ResponseSpans.{ResponseSpans}

@@ -1,9 +1,8 @@
-use Rattle.std.proofs.Common.{rules, ◌≡◌, ◌≢◌, ◌≤◌, ◌+◌, ◌-◌, ◌++◌, ℕ, List, length, take, drop, arith, ap, sym, subst, ◌∙◌}
-use Rattle.ld_wire.specs.Heads.{HeadsStand, HeadsStep, InHead, heads_view}
+use Rattle.std.proofs.Common.{rules, ◌≡◌, ◌≢◌, ◌≤◌, ◌+◌, ◌-◌, ◌++◌, ℕ, List, length, take, drop, arith, ◌∙◌}
+use Rattle.ld_wire.specs.Heads.{InHead, heads_view}
 use Rattle.ld_wire.specs.Response.{Refuses}
 use Rattle.ld_wire.specs.declared.fault.WireFault.{WireFault}
 use Rattle.ld_wire.specs.declared.fault.WireFault.TheVariants.{Memory}
-use Rattle.ld_wire.specs.declared.framing.Follows.{Follows}
 use Rattle.ld_wire.specs.declared.framing.Follows.TheVariants.{Head}
 use Rattle.ld_wire.proofs.HandedLemmas.{handed}
 use Rattle.ld_wire.proofs.HeadsLemmas.{at_head, heads_behind, heads_refused_behind}
