@@ -1,14 +1,14 @@
 -- The heads of a response, one more at a time.
-use Rattle.std.proofs.Common.{rules, ◌≡◌, ◌≤◌, ◌+◌, ◌∙◌, ℕ, Bool, inl, inr, None, List, [], ◌∷◌, ◌++◌, length, map, take, drop, arith, ap, ap₂, sym, subst, refl, append_assoc, append-nil, Result, Ok, Err}
+use Rattle.std.proofs.Common.{rules, ◌≡◌, ◌<◌, ◌≤◌, ◌+◌, ◌∙◌, ℕ, Bool, inl, inr, None, List, [], ◌∷◌, ◌++◌, length, map, take, drop, arith, ap, ap₂, sym, subst, refl, append_assoc, append-nil, Result, Ok, Err}
 use Rattle.std.proofs.lemmas.List.{length-append, length-map, length-take-le}
 use Rattle.std.proofs.lemmas.List.Elements.{All-nil}
 use Rattle.httparse.specs.Grammar.{IsField, ResponseHead, HasNoResponse, MayBecomeResponse, lf, print_end, print_response, print_section, print_blank, print_version, print_reason}
 use Rattle.httparse.specs.Spans.{header_bytes}
 use Rattle.httparse.specs.declared.spans.HeaderSpan.{HeaderSpan}
 use Rattle.httparse.specs.declared.spans.ResponseSpans.{ResponseSpans}
-use Rattle.ld_wire.specs.Found.{IsOpenHead, header_room}
+use Rattle.ld_wire.specs.Found.{IsOpenHead}
 use Rattle.ld_wire.specs.Head.{IsHead, follows, follows_head}
-use Rattle.ld_wire.specs.Heads.{HasRoom, HeadsStand, HeadsStep, HeadsView, InHead, IsFound, heads_view}
+use Rattle.ld_wire.specs.Heads.{KeepsHeaders, HeadsStand, HeadsStep, HeadsView, InHead, IsFound, heads_view}
 use Rattle.ld_wire.specs.Response.{AreInterims, FollowedBy, HasHeadFault, Refuses, print_heads}
 use Rattle.ld_wire.specs.declared.fault.WireFault.{WireFault}
 use Rattle.ld_wire.specs.declared.framing.Follows.{Follows}
@@ -60,16 +60,16 @@ first_head heads bytes interims status headers =
 -- ---- room
 
 -- while no final head is whole, no headers are kept
-pub none_kept : (heads : Heads) (bytes : List ℕ) → HasRoom heads → InHead (heads_view heads) bytes → heads.headers ≡ 0
+pub none_kept : (heads : Heads) (bytes : List ℕ) → KeepsHeaders heads → InHead (heads_view heads) bytes → heads.headers ≡ 0
 none_kept heads bytes room is =
     let kept = ap length is.headers in
     let mapped = length-map (take heads.headers heads.room.items) (header_bytes heads.bytes.items) in
     let taken = length-take-le heads.headers heads.room.items room.count in
     omega arith
 
-pub room_is : (heads : Heads) → heads.headers ≡ 0 → header_room ≤ length heads.room.items → HasRoom heads
-room_is heads none room =
-    let P : ℕ → Type 0 = λ n. HasRoom (record {
+pub room_is : (heads : Heads) → heads.headers ≡ 0 → KeepsHeaders heads
+room_is heads none =
+    let P : ℕ → Type 0 = λ n. KeepsHeaders (record {
       for_head = heads.for_head;
       interims = heads.interims;
       bytes = heads.bytes;
@@ -77,7 +77,7 @@ room_is heads none room =
       headers = n;
       status = heads.status;
     }) in
-    subst P (sym none) (record { room = room; count = omega arith; within = search rules })
+    subst P (sym none) (record { count = omega arith; within = search rules })
 
 no_headers : (bytes : List ℕ) (count : ℕ) (room : List HeaderSpan) → count ≡ 0 → map (header_bytes bytes) (take count room) ≡ []
 no_headers bytes count room none = ap (λ (n : ℕ). map (header_bytes bytes) (take n room)) none
@@ -85,19 +85,19 @@ no_headers bytes count room none = ap (λ (n : ℕ). map (header_bytes bytes) (t
 -- ---- a head isn't whole yet
 
 pub head_goes_on : (old new : Heads) (used : ℕ) (bytes piece : List ℕ) → new.for_head ≡ old.for_head → new.interims ≡ old.interims
-    → new.status ≡ old.status → new.headers ≡ 0 → used ≡ length piece → new.bytes.items ≡ old.bytes.items ++ piece → IsOpenHead new.bytes.items
-    → take used piece ≡ piece → InHead (heads_view old) bytes → HeadsStep used Head (heads_view new) bytes piece
-head_goes_on old new used bytes piece for_head interims status none all same more whole is =
+    → new.status ≡ old.status → new.headers ≡ 0 → used ≤ length piece → (0 < length piece → 0 < used)
+    → new.bytes.items ≡ old.bytes.items ++ take used piece → IsOpenHead new.bytes.items → InHead (heads_view old) bytes → HeadsStep used Head (heads_view new) bytes piece
+head_goes_on old new used bytes piece for_head interims status none inside some same more is =
     let P : Bool → Type 0 = λ b. AreInterims b 0 is.before in
     record {
-      inside = omega arith;
-      some = λ some. omega arith;
+      inside = inside;
+      some = some;
       stands = record {
         before = is.before;
         form = subst P (sym for_head) is.form;
         count = is.count ∙ sym interims;
-        bytes_are = ap (λ (t : List ℕ). bytes ++ t) whole ∙ ap (λ (t : List ℕ). t ++ piece) is.bytes_are
-            ∙ append_assoc (print_heads is.before) old.bytes.items piece ∙ ap (λ (t : List ℕ). print_heads is.before ++ t) (sym same);
+        bytes_are = ap (λ (t : List ℕ). t ++ take used piece) is.bytes_are
+            ∙ append_assoc (print_heads is.before) old.bytes.items (take used piece) ∙ ap (λ (t : List ℕ). print_heads is.before ++ t) (sym same);
         more = more;
         status = status ∙ is.status;
         headers = no_headers new.bytes.items new.headers new.room.items none;

@@ -7,7 +7,7 @@ use Rattle.ld_wire.specs.Body.{BodyStands}
 use Rattle.ld_wire.specs.Found.{IsOpenHead}
 use Rattle.ld_wire.specs.Head.{IsHead, follows_head, head_limit}
 use Rattle.ld_wire.specs.Heads.{BehindHead, HeadsView, InHead}
-use Rattle.ld_wire.specs.Reader.{InBody, IsCut, IsOpen}
+use Rattle.ld_wire.specs.Reader.{InBody, IsCutShort, IsOpen}
 use Rattle.ld_wire.specs.Response.{BodyRefuses, FollowedBy, HasHeadFault, HeadRefuses, IsBody, IsResponse, Refuses, Response, print_heads}
 use Rattle.ld_wire.specs.declared.body_place.BodyPlace.{BodyPlace}
 use Rattle.ld_wire.specs.declared.body_place.BodyPlace.TheVariants as places
@@ -67,7 +67,7 @@ open_head heads bytes is = record {
   sound = λ fault refuses. head_unrefused heads bytes fault is refuses;
 }
 
-pub cut_head : (heads : HeadsView) (bytes : List ℕ) → InHead heads bytes → IsCut heads.for_head bytes
+pub cut_head : (heads : HeadsView) (bytes : List ℕ) → InHead heads bytes → IsCutShort heads.for_head bytes
 cut_head heads bytes is = record {
   unfinished = open_head heads bytes is;
   none = λ response whole. head_unfinished heads bytes bytes [] true response is (sym (append-nil bytes)) whole;
@@ -199,7 +199,7 @@ open_body place heads held body bytes is =
     }
 
 pub cut_body : (place : BodyPlace) (heads : HeadsView) (held body bytes : List ℕ) → place ≢ places.Close → InBody place heads held body bytes
-    → IsCut heads.for_head bytes
+    → IsCutShort heads.for_head bytes
 cut_body place heads held body bytes other is = record {
   unfinished = open_body place heads held body bytes is;
   none = λ response whole.

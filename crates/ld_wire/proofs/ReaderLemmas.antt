@@ -4,8 +4,8 @@ use Rattle.std.specs.Prelude.{IfErr, IfOk}
 use Rattle.ld_wire.specs.Body.{BodyStands}
 use Rattle.ld_wire.specs.Heads.{BehindHead, HeadsView, InHead, heads_view}
 use Rattle.ld_wire.specs.Kept.{reader_view}
-use Rattle.ld_wire.specs.Reader.{AdvancesTo, FedAt, HasFault, HasRead, InBody, IsOpen, IsWhole, feed_at, feed_of, stage_behind, with_piece}
-use Rattle.ld_wire.specs.ReaderView.{Answers, IsFed, ReaderView}
+use Rattle.ld_wire.specs.Reader.{AdvancesTo, FedAt, HasFault, ShowsResponse, InBody, IsOpen, IsWhole, feed_at, feed_of, stage_behind, with_piece}
+use Rattle.ld_wire.specs.ReaderView.{FeedAnswers, IsFed, ReaderView}
 use Rattle.ld_wire.specs.Response.{IsBody, IsResponse, Refuses, Response}
 use Rattle.ld_wire.specs.declared.body_place.BodyPlace.{BodyPlace}
 use Rattle.ld_wire.specs.declared.body_place.BodyPlace.TheVariants as places
@@ -55,7 +55,7 @@ pub whole_stays : (heads : HeadsView) (held body : List ℕ) (ended : Bool) (byt
 whole_stays heads held body ended bytes piece is = (is.0, is.1, whole_more heads.for_head ended bytes piece is.0 is.1 is.2, is.3)
 
 pub whole_again : (heads : HeadsView) (held body : List ℕ) (ended : Bool) (bytes piece : List ℕ) → FedAt stages.Whole heads held body ended bytes
-    → (whole : ℕ) × (response : Response) × IsWhole heads.for_head ended (with_piece ended bytes piece) whole response × HasRead heads body response
+    → (whole : ℕ) × (response : Response) × IsWhole heads.for_head ended (with_piece ended bytes piece) whole response × ShowsResponse heads body response
     × (0 ≡ whole - length bytes)
 whole_again heads held body ended bytes piece is =
     let inside = whole_inside heads.for_head ended bytes is.0 is.1 is.2 in
@@ -87,7 +87,7 @@ step_fed (Ok step) heads held body bytes piece is = fed_at step.stage step.used 
 step_fed (Err fault) heads held body bytes piece is = λ other. inl (is.err other)
 
 answer_at : (stage : Stage) (used : ℕ) (heads : HeadsView) (held body bytes piece : List ℕ) (reader : ReaderView) → reader.heads ≡ heads → reader.body ≡ body
-    → AdvancesTo stage used heads held body bytes piece → Answers (Ok (feed_at stage used)) reader false (length bytes) (bytes ++ piece)
+    → AdvancesTo stage used heads held body bytes piece → FeedAnswers (Ok (feed_at stage used)) reader false (length bytes) (bytes ++ piece)
 answer_at stages.Head used heads held body bytes piece reader same same_body is =
     let P : HeadsView → Type 0 = λ h. IsOpen h.for_head (bytes ++ piece) in
     (refl, subst P (sym same) (open_head heads (bytes ++ piece) is.1))
@@ -96,13 +96,13 @@ answer_at (stages.Body place) used heads held body bytes piece reader same same_
     (refl, subst P (sym same) (open_body place heads held body (bytes ++ piece) is.1))
 answer_at stages.Whole used heads held body bytes piece reader same same_body is =
     let P : HeadsView → Type 0 = λ h. IsWhole h.for_head false (bytes ++ piece) (length bytes + used) is.1 in
-    let Q : HeadsView → Type 0 = λ h. HasRead h body is.1 in
-    let R : List ℕ → Type 0 = λ b. HasRead reader.heads b is.1 in
+    let Q : HeadsView → Type 0 = λ h. ShowsResponse h body is.1 in
+    let R : List ℕ → Type 0 = λ b. ShowsResponse reader.heads b is.1 in
     (length bytes + used, is.1, subst P (sym same) (inl is.2), subst R (sym same_body) (subst Q (sym same) is.3), omega arith)
 answer_at (stages.Refused fault) used heads held body bytes piece reader same same_body is = absurd is
 
 pub step_answer : (result : Result Advance WireFault) (heads : HeadsView) (held body bytes piece : List ℕ) (reader : ReaderView) → reader.heads ≡ heads
-    → reader.body ≡ body → Steps result heads held body bytes piece → Answers (feed_of result) reader false (length bytes) (bytes ++ piece)
+    → reader.body ≡ body → Steps result heads held body bytes piece → FeedAnswers (feed_of result) reader false (length bytes) (bytes ++ piece)
 step_answer (Ok step) heads held body bytes piece reader same same_body is = answer_at step.stage step.used heads held body bytes piece reader same same_body is.ok
 step_answer (Err fault) heads held body bytes piece reader same same_body is =
     let P : HeadsView → Type 0 = λ h. HasFault h.for_head false (bytes ++ piece) fault in
@@ -140,9 +140,9 @@ fed_more stage heads held body ended bytes piece is fed =
     subst P (sym is) fed
 
 pub answer_more : (result : Result Feed WireFault) (reader : ReaderView) (ended : Bool) (before : ℕ) (bytes piece : List ℕ) → ended ≡ false
-    → Answers result reader false before (bytes ++ piece) → Answers result reader ended before (with_piece ended bytes piece)
+    → FeedAnswers result reader false before (bytes ++ piece) → FeedAnswers result reader ended before (with_piece ended bytes piece)
 answer_more result reader ended before bytes piece is answer =
-    let P : Bool → Type 0 = λ e. Answers result reader e before (with_piece e bytes piece) in
+    let P : Bool → Type 0 = λ e. FeedAnswers result reader e before (with_piece e bytes piece) in
     subst P (sym is) answer
 
 -- ---- where the peer ends
@@ -233,9 +233,9 @@ head_fed result stage old heads old_held old_body held body ended bytes piece st
 
 pub head_answer : (result : Result Advance WireFault) (feed : Result Feed WireFault) (reader : ReaderView) (old : HeadsView) (old_held old_body : List ℕ) (ended : Bool)
     (bytes piece : List ℕ) → feed ≡ feed_of result → reader.heads.for_head ≡ old.for_head → HeadOk result old reader.heads reader.held reader.body piece → HeadErr result old piece
-    → FedAt stages.Head old old_held old_body ended bytes → Answers feed reader ended (length bytes) (with_piece ended bytes piece)
+    → FedAt stages.Head old old_held old_body ended bytes → FeedAnswers feed reader ended (length bytes) (with_piece ended bytes piece)
 head_answer result feed reader old old_held old_body ended bytes piece feed_is same ok err is =
-    let P : Result Feed WireFault → Type 0 = λ r. Answers r reader ended (length bytes) (with_piece ended bytes piece) in
+    let P : Result Feed WireFault → Type 0 = λ r. FeedAnswers r reader ended (length bytes) (with_piece ended bytes piece) in
     subst P (sym feed_is)
     (answer_more (feed_of result) reader ended (length bytes) bytes piece is.0
     (step_answer result reader.heads reader.held reader.body bytes piece reader refl refl
@@ -254,9 +254,9 @@ body_fed result stage place heads old_held old_body held body ended bytes piece 
 pub body_answer : (result : Result Advance WireFault) (feed : Result Feed WireFault) (reader : ReaderView) (place : BodyPlace) (old_held old_body : List ℕ) (ended : Bool)
     (bytes piece : List ℕ) → feed ≡ feed_of result → BodyOk result place old_held old_body reader.held reader.body piece
     → BodyErr result place old_held old_body piece → FedAt (stages.Body place) reader.heads old_held old_body ended bytes
-    → Answers feed reader ended (length bytes) (with_piece ended bytes piece)
+    → FeedAnswers feed reader ended (length bytes) (with_piece ended bytes piece)
 body_answer result feed reader place old_held old_body ended bytes piece feed_is ok err is =
-    let P : Result Feed WireFault → Type 0 = λ r. Answers r reader ended (length bytes) (with_piece ended bytes piece) in
+    let P : Result Feed WireFault → Type 0 = λ r. FeedAnswers r reader ended (length bytes) (with_piece ended bytes piece) in
     subst P (sym feed_is)
     (answer_more (feed_of result) reader ended (length bytes) bytes piece is.0
     (step_answer result reader.heads reader.held reader.body bytes piece reader refl refl

@@ -4,7 +4,7 @@ use Rattle.httparse.specs.Grammar.{ResponseHead, print_response, status_code}
 use Rattle.httparse.specs.Spans.{IsHeaderWithin, header_bytes}
 use Rattle.httparse.specs.declared.spans.HeaderSpan.{HeaderSpan}
 use Rattle.httparse.specs.declared.spans.ResponseSpans.{ResponseSpans}
-use Rattle.ld_wire.specs.Found.{IsOpenHead, header_room}
+use Rattle.ld_wire.specs.Found.{IsOpenHead}
 use Rattle.ld_wire.specs.Head.{Header, IsHead, follows_head, headers_of}
 use Rattle.ld_wire.specs.Response.{AreInterims, print_heads}
 use Rattle.ld_wire.specs.declared.framing.Follows.{Follows}
@@ -51,9 +51,8 @@ heads_view heads = record {
   headers = map (header_bytes heads.bytes.items) (take heads.headers heads.room.items);
 }
 
--- there is room for a head's headers, and those that are kept lie in its bytes
-pub record HasRoom (heads : Heads) : Type 0 where
-  pub room : header_room ≤ length heads.room.items
+-- the headers that are kept lie in the bytes of their head
+pub record KeepsHeaders (heads : Heads) : Type 0 where
   pub count : heads.headers ≤ length heads.room.items
   pub within : All (IsHeaderWithin (length heads.bytes.items)) (take heads.headers heads.room.items)
 

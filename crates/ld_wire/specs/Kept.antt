@@ -1,6 +1,6 @@
 -- What a reader keeps, and how it is seen.
 use Rattle.std.specs.Prelude.{Bool, List, ℕ}
-use Rattle.ld_wire.specs.Heads.{HasRoom, heads_view}
+use Rattle.ld_wire.specs.Heads.{KeepsHeaders, heads_view}
 use Rattle.ld_wire.specs.Reader.{FedAt}
 use Rattle.ld_wire.specs.ReaderView.{ReaderView}
 use Rattle.ld_wire.specs.declared.heads.Heads.{Heads}
@@ -11,7 +11,7 @@ reader_view heads stage held body = record { heads = heads_view heads; stage = s
 
 -- there is room for headers, and it stands where some bytes lead
 pub record IsKept (heads : Heads) (stage : Stage) (held body : List ℕ) : Type 0 where
-  pub room : HasRoom heads
+  pub room : KeepsHeaders heads
   pub ended : Bool
   pub bytes : List ℕ
   pub fed : FedAt stage (heads_view heads) held body ended bytes

@@ -30,17 +30,17 @@ pub record IsOpen (for_head : Bool) (bytes : List ℕ) : Type 0 where
   pub sound : (fault : WireFault) → ¬ (Refuses for_head bytes fault)
 
 -- the peer ended behind them, and they are no whole response
-pub record IsCut (for_head : Bool) (bytes : List ℕ) : Type 0 where
+pub record IsCutShort (for_head : Bool) (bytes : List ℕ) : Type 0 where
   pub unfinished : IsOpen for_head bytes
   pub none : (response : Response) → ¬ (IsResponse for_head Bool.true bytes response)
 
 -- the fault of the bytes, behind which the peer ended or not
 abbrev pub HasFault : Bool → Bool → List ℕ → WireFault → Type 0
 HasFault for_head ended bytes fault =
-    Refuses for_head bytes fault ⊎ ((fault ≡ CutShort) × IsTrue ended × IsCut for_head bytes)
+    Refuses for_head bytes fault ⊎ ((fault ≡ CutShort) × IsTrue ended × IsCutShort for_head bytes)
 
 -- this was read of a response
-pub record HasRead (heads : HeadsView) (body : List ℕ) (response : Response) : Type 0 where
+pub record ShowsResponse (heads : HeadsView) (body : List ℕ) (response : Response) : Type 0 where
   pub status : heads.status ≡ response.status
   pub headers : heads.headers ≡ response.headers
   pub body_is : body ≡ response.body
@@ -69,7 +69,7 @@ FedAt stages.Head heads held body ended bytes =
     (ended ≡ Bool.false) × InHead heads bytes × (held ≡ []) × (body ≡ [])
 FedAt (stages.Body place) heads held body ended bytes = (ended ≡ Bool.false) × InBody place heads held body bytes
 FedAt stages.Whole heads held body ended bytes =
-    (used : ℕ) × (response : Response) × IsWhole heads.for_head ended bytes used response × HasRead heads body response
+    (used : ℕ) × (response : Response) × IsWhole heads.for_head ended bytes used response × ShowsResponse heads body response
 FedAt (stages.Refused fault) heads held body ended bytes =
     fault ≢ Memory → HasFault heads.for_head ended bytes fault
 
@@ -80,7 +80,7 @@ AdvancesTo (stages.Body place) used heads held body bytes piece =
     FedAt (stages.Body place) heads held body Bool.false (bytes ++ piece)
 AdvancesTo stages.Whole used heads held body bytes piece =
     (used ≤ length piece) × (response : Response)
-    × Begins heads.for_head (bytes ++ piece) (length bytes + used) response × HasRead heads body response
+    × Begins heads.for_head (bytes ++ piece) (length bytes + used) response × ShowsResponse heads body response
 AdvancesTo (stages.Refused fault) used heads held body bytes piece = ⊥
 
 -- where the reading stands behind a step, and what is answered then

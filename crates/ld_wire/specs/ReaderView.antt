@@ -1,7 +1,7 @@
 -- A reader of a response, as it is seen.
 use Rattle.std.specs.Prelude.{◌≡◌, ◌≢◌, ◌-◌, ℕ, Bool, List, Result, Ok, Err}
 use Rattle.ld_wire.specs.Heads.{HeadsView}
-use Rattle.ld_wire.specs.Reader.{FedAt, HasFault, HasRead, IsOpen, IsWhole}
+use Rattle.ld_wire.specs.Reader.{FedAt, HasFault, ShowsResponse, IsOpen, IsWhole}
 use Rattle.ld_wire.specs.Response.{Response}
 use Rattle.ld_wire.specs.declared.fault.WireFault.{WireFault}
 use Rattle.ld_wire.specs.declared.fault.WireFault.TheVariants.{Memory}
@@ -21,16 +21,16 @@ abbrev pub IsFed : ReaderView → Bool → List ℕ → Type 0
 IsFed reader ended bytes = FedAt reader.stage reader.heads reader.held reader.body ended bytes
 
 -- what is answered of all bytes that were fed, of which so many were fed before: want of memory says nothing of them
-abbrev pub Answers : Result Feed WireFault → ReaderView → Bool → ℕ → List ℕ → Type 0
-Answers (Ok feeds.Again) reader ended before bytes = (ended ≡ Bool.false) × IsOpen reader.heads.for_head bytes
-Answers (Ok (feeds.Whole used)) reader ended before bytes =
+abbrev pub FeedAnswers : Result Feed WireFault → ReaderView → Bool → ℕ → List ℕ → Type 0
+FeedAnswers (Ok feeds.Again) reader ended before bytes = (ended ≡ Bool.false) × IsOpen reader.heads.for_head bytes
+FeedAnswers (Ok (feeds.Whole used)) reader ended before bytes =
     (whole : ℕ) × (response : Response) × IsWhole reader.heads.for_head ended bytes whole response
-    × HasRead reader.heads reader.body response × (used ≡ whole - before)
-Answers (Err fault) reader ended before bytes = fault ≢ Memory → HasFault reader.heads.for_head ended bytes fault
+    × ShowsResponse reader.heads reader.body response × (used ≡ whole - before)
+FeedAnswers (Err fault) reader ended before bytes = fault ≢ Memory → HasFault reader.heads.for_head ended bytes fault
 
 -- what is answered where the peer ended behind all bytes that were fed
-abbrev pub Ends : Result (Unit {0}) WireFault → ReaderView → List ℕ → Type 0
-Ends (Ok done) reader bytes =
+abbrev pub EndAnswers : Result (Unit {0}) WireFault → ReaderView → List ℕ → Type 0
+EndAnswers (Ok done) reader bytes =
     (whole : ℕ) × (response : Response) × IsWhole reader.heads.for_head Bool.true bytes whole response
-    × HasRead reader.heads reader.body response
-Ends (Err fault) reader bytes = fault ≢ Memory → HasFault reader.heads.for_head Bool.true bytes fault
+    × ShowsResponse reader.heads reader.body response
+EndAnswers (Err fault) reader bytes = fault ≢ Memory → HasFault reader.heads.for_head Bool.true bytes fault

@@ -1,7 +1,7 @@
 // A response, from its heads to its body.
 ghost use Rattle.std.specs.Prelude.{◌≡◌, ◌≢◌, ◌++◌, [], IfErr, IfOk, List, ℕ};
 ghost use Rattle.ld_wire.specs.Body.{BodyStands};
-ghost use Rattle.ld_wire.specs.Heads.{BehindHead, HasRoom, HeadsView, InHead, heads_view};
+ghost use Rattle.ld_wire.specs.Heads.{BehindHead, KeepsHeaders, HeadsView, InHead, heads_view};
 ghost use Rattle.ld_wire.specs.Reader.{AdvancesTo, stage_of};
 ghost use Rattle.ld_wire.specs.Response.{Refuses};
 ghost use Rattle.ld_wire.specs.declared.framing.Follows.{Follows};
@@ -20,10 +20,10 @@ pub fn start(
     body: &mut Vec<u8>,
     piece: &[u8],
 ) -> Result<Advance, WireFault>
-    requires room { HasRoom heads.old }
+    requires room { KeepsHeaders heads.old }
     requires stands { (bytes : List ℕ) × InHead (heads_view heads.old) bytes }
     requires empty { (held.old.items ≡ []) × (body.old.items ≡ []) }
-    ensures room { HasRoom heads.new }
+    ensures room { KeepsHeaders heads.new }
     ensures same { heads.new.for_head ≡ heads.old.for_head }
     ensures ok { IfOk result (λ step. (bytes : List ℕ) → InHead (heads_view heads.old) bytes →
         AdvancesTo step.stage step.used (heads_view heads.new) held.new.items body.new.items bytes piece.now) }

@@ -2,10 +2,9 @@
 ghost use Rattle.std.specs.Prelude.{◌≡◌, ◌≢◌, ◌≤◌, ◌++◌, [], IfErr, IfOk, List, ℕ, Ok, Err, length};
 ghost use Rattle.httparse.specs.Grammar.{ResponseHead, print_response};
 ghost use Rattle.httparse.specs.declared.spans.ResponseSpans.{ResponseSpans};
-ghost use Rattle.ld_wire.specs.Found.{header_room};
 ghost use Rattle.std.specs.Option.{option_copied};
 ghost use Rattle.ld_wire.specs.Head.{first_value, follows_head, is_told};
-ghost use Rattle.ld_wire.specs.Heads.{HasRoom, HeadsStand, HeadsStep, HeadsTake, InHead, IsFound, heads_view};
+ghost use Rattle.ld_wire.specs.Heads.{KeepsHeaders, HeadsStand, HeadsStep, HeadsTake, InHead, IsFound, heads_view};
 ghost use Rattle.ld_wire.specs.Response.{AreInterims, Refuses, print_heads};
 
 use crate::fault::WireFault;
@@ -13,10 +12,8 @@ use crate::follows::follows;
 use crate::framing::Follows;
 use crate::head_step::take_head;
 use crate::headers::first_value;
-use httparse::spans::{EMPTY_HEADER_SPAN, HeaderSpan, ResponseSpans};
+use httparse::spans::{HeaderSpan, ResponseSpans};
 use std::alloc::Global;
-
-const HEADER_ROOM: usize = 22_000;
 
 // The heads of a response as far as they came: for a HEAD request or not, how many interim ones came, the bytes of the
 // last, room for its headers, and of the final one how many there are, and its status.
@@ -41,7 +38,7 @@ pub struct HeadsMove {
 impl Heads {
     // No head yet.
     pub fn new(alloc: Global, for_head: bool) -> Result<Heads, WireFault>
-        ensures room { IfOk result HasRoom }
+        ensures room { IfOk result KeepsHeaders }
         ensures empty { IfOk result (λ heads. (heads.for_head ≡ for_head) × InHead (heads_view heads) []) }
         ensures memory { IfErr result (λ fault. fault ≡ WireFault.Memory) }
     {
@@ -49,7 +46,7 @@ impl Heads {
             for_head,
             interims: 0,
             bytes: Vec::new(alloc),
-            room: vec![in alloc; EMPTY_HEADER_SPAN; HEADER_ROOM]?,
+            room: Vec::new(alloc),
             headers: 0,
             status: 0,
         })
@@ -57,9 +54,9 @@ impl Heads {
 
     // Takes the next bytes of the heads, up to the end of the final one where it comes.
     pub fn take_heads(&mut self, piece: &[u8]) -> Result<HeadsMove, WireFault>
-        requires room { HasRoom self.old }
+        requires room { KeepsHeaders self.old }
         requires stands { (bytes : List ℕ) × InHead (heads_view self.old) bytes }
-        ensures room { HasRoom self.new }
+        ensures room { KeepsHeaders self.new }
         ensures same { self.new.for_head ≡ self.old.for_head }
         ensures ok { IfOk result (λ move. (bytes : List ℕ) → InHead (heads_view self.old) bytes →
             HeadsTake move.used move.follows (heads_view self.new) bytes piece.now) }
@@ -79,9 +76,9 @@ impl Heads {
 
     // Takes the next bytes of one head, up to its end where it comes.
     fn take_one(&mut self, piece: &[u8]) -> Result<HeadsMove, WireFault>
-        requires room { HasRoom self.old }
+        requires room { KeepsHeaders self.old }
         requires stands { (bytes : List ℕ) × InHead (heads_view self.old) bytes }
-        ensures room { HasRoom self.new }
+        ensures room { KeepsHeaders self.new }
         ensures same { self.new.for_head ≡ self.old.for_head }
         ensures ok { IfOk result (λ move. (bytes : List ℕ) → InHead (heads_view self.old) bytes →
             HeadsStep move.used move.follows (heads_view self.new) bytes piece.now) }
@@ -106,10 +103,9 @@ impl Heads {
 
     // What follows the head that was found: the next one behind an interim one, else the status and the headers are kept.
     fn settle(&mut self, found: &ResponseSpans) -> Result<Follows, WireFault>
-        requires room { header_room ≤ length self.old.room.items }
         requires none { (self.old.headers ≡ 0) × (self.old.status ≡ 0) }
         requires found { (head : ResponseHead) × IsFound self.old.bytes.items self.old.room.items found.now head }
-        ensures room { HasRoom self.new }
+        ensures room { KeepsHeaders self.new }
         ensures same { self.new.for_head ≡ self.old.for_head }
         ensures ok { IfOk result (λ follows. (before : List ResponseHead) (head : ResponseHead) →
             AreInterims self.old.for_head 0 before → length before ≡ self.old.interims →
@@ -143,7 +139,7 @@ impl Heads {
 
     // The value of the first header of this name.
     pub fn header(&self, name: &[u8]) -> Option<&[u8]>
-        requires { HasRoom self.now }
+        requires { KeepsHeaders self.now }
         ensures { option_copied result ≡ first_value name.now (heads_view self.now).headers }
     {
         let (spans, _) = self.room.split_at(self.headers);

@@ -35,7 +35,7 @@ impl ResponseReader {
     ghost use Rattle.std.specs.Option.{option_copied};
     ghost use Rattle.ld_wire.specs.Head.{first_value};
     ghost use Rattle.ld_wire.specs.Reader.{with_piece};
-    ghost use Rattle.ld_wire.specs.ReaderView.{Answers, Ends, IsFed};
+    ghost use Rattle.ld_wire.specs.ReaderView.{FeedAnswers, EndAnswers, IsFed};
     ghost use Rattle.ld_wire.specs.declared.fault.WireFault.{WireFault};
 
     /// A reader that was fed nothing, of the response to a `HEAD` request or to another one.
@@ -64,7 +64,7 @@ impl ResponseReader {
         ensures fed { (ended : Bool) (bytes : List ℕ) → IsFed self.old ended bytes →
             IsFed self.new ended (with_piece ended bytes piece.now) }
         ensures answer { (ended : Bool) (bytes : List ℕ) → IsFed self.old ended bytes →
-            Answers result self.new ended (length bytes) (with_piece ended bytes piece.now) }
+            FeedAnswers result self.new ended (length bytes) (with_piece ended bytes piece.now) }
         ensures same { self.new.heads.for_head ≡ self.old.heads.for_head }
         ensures refused { IfErr result (λ fault. self.new.stage ≡ Stage.Refused fault) }
         ensures for_good { (fault : WireFault) → self.old.stage ≡ Stage.Refused fault →
@@ -91,7 +91,7 @@ impl ResponseReader {
     /// Fails where the response isn't whole: with the refusal, or cut short.
     pub fn end(&mut self) -> Result<(), WireFault>
         ensures fed { (ended : Bool) (bytes : List ℕ) → IsFed self.old ended bytes → IsFed self.new Bool.true bytes }
-        ensures answer { (ended : Bool) (bytes : List ℕ) → IsFed self.old ended bytes → Ends result self.new bytes }
+        ensures answer { (ended : Bool) (bytes : List ℕ) → IsFed self.old ended bytes → EndAnswers result self.new bytes }
         ensures same { self.new.heads.for_head ≡ self.old.heads.for_head }
         ensures refused { IfErr result (λ fault. self.new.stage ≡ Stage.Refused fault) }
         ensures for_good { (fault : WireFault) → self.old.stage ≡ Stage.Refused fault →

@@ -13,14 +13,14 @@ returns-in-Ok-Some-clause-whole c =
     let new = c.extend_from_slice.new.self.items in
     let piece = c.args.piece.now in
     let room = c.find_head.new.room in
-    let old = c.args.room.now.items in
+    let old = c.widen.new.room.items in
     let kept_room : length room ≡ length old = search rules in
-    let len_is : c.args.room.now.len ≡ length room = search rules in
-    let room_is = whole_room c.args.room.now.len room old len_is kept_room in
+    let len_is : c.widen.new.room.len ≡ length room = search rules in
+    let room_is = whole_room c.widen.new.room.len room old len_is kept_room in
     let window = c.min-window.result in
     let least = c.min-window.ensures in
     let before = c.len-before.ensures in
-    let few = c.requires.more.short in
+    let few = c.requires.short in
     let seen = c.deref.result.now in
     let whole : seen ≡ new = search rules in
     let appended : new ≡ held ++ take window piece = search rules in
@@ -34,7 +34,7 @@ returns-in-Ok-Some-clause-whole c =
     let S : List HeaderSpan → Type 0 = λ r. HeadEnds held c.truncate.new.self.items r piece c.saturating_sub.result found in
     let kept : take found.len seen ≡ c.truncate.new.self.items = search rules in
     subst S (sym room_is) (subst R kept
-    (head_ends held seen piece window c.saturating_sub.result room found (omega arith) (omega arith) used (whole ∙ appended) c.requires.more is within))
+    (head_ends held seen piece window c.saturating_sub.result room found (omega arith) (omega arith) used (whole ∙ appended) c.requires is within))
 
 pub returns-in-Err-clause-refused : goal.returns-in-Err-clause-refused
 returns-in-Err-clause-refused c other =

@@ -1,7 +1,6 @@
-use Rattle.std.proofs.Common.{◌≡◌, ◌≢◌, ◌++◌, ℕ, List, Option, length, arith, refl, subst}
+use Rattle.std.proofs.Common.{◌≡◌, ◌≢◌, ◌<◌, ◌≤◌, ◌++◌, ℕ, List, Option, length, take, refl, subst}
 use Rattle.std.specs.Prelude.{IfNone, IfSome}
 use Rattle.httparse.specs.declared.spans.ResponseSpans.{ResponseSpans}
-use Rattle.std.proofs.lemmas.List.{take_all}
 use Rattle.ld_wire.specs.Found.{IsOpenHead}
 use Rattle.ld_wire.specs.Heads.{HeadEnds, InHead, IsFound, heads_view}
 use Rattle.ld_wire.specs.Response.{Refuses}
@@ -23,7 +22,7 @@ returns-in_err-step-clause-room c =
       headers = self.headers;
       status = self.status;
     } in
-    room_is new (none_kept self c.requires.stands.0 c.requires.room c.requires.stands.1) c.take_head.ensures.kept
+    room_is new (none_kept self c.requires.stands.0 c.requires.room c.requires.stands.1)
 
 pub returns-in_err-step-clause-err : goal.returns-in_err-step-clause-err
 returns-in_err-step-clause-err c =
@@ -69,7 +68,7 @@ returns-in-None-clause-room c =
       headers = self.headers;
       status = self.status;
     } in
-    room_is new (none_kept self c.requires.stands.0 c.requires.room c.requires.stands.1) c.take_head.ensures.kept
+    room_is new (none_kept self c.requires.stands.0 c.requires.room c.requires.stands.1)
 
 pub returns-in-None-clause-ok : goal.returns-in-None-clause-ok
 returns-in-None-clause-ok c bytes is =
@@ -84,9 +83,7 @@ returns-in-None-clause-ok c bytes is =
       status = self.status;
     } in
     let used = c.in_ok-step.step.used in
-    let P : Option ResponseSpans → Type 0 = λ o. IfNone o ((used ≡ length piece)
-    × (c.take_head.new.head.items ≡ self.bytes.items ++ piece) × IsOpenHead c.take_head.new.head.items) in
+    let P : Option ResponseSpans → Type 0 = λ o. IfNone o ((used ≤ length piece) × (0 < length piece → 0 < used)
+    × (c.take_head.new.head.items ≡ self.bytes.items ++ take used piece) × IsOpenHead c.take_head.new.head.items) in
     let none = subst P c.in-None.is c.in_ok-step.ensures.none in
-    let all = none.0 in
-    head_goes_on self new used bytes piece refl refl refl (none_kept self bytes c.requires.room is) all none.1 none.2
-    (take_all used piece (omega arith)) is
+    head_goes_on self new used bytes piece refl refl refl (none_kept self bytes c.requires.room is) none.0 none.1 none.2 none.3 is

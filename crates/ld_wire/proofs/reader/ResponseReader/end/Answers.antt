@@ -1,6 +1,6 @@
 use Rattle.std.proofs.Common.{rules, ◌≡◌, ◌≢◌, ℕ, true, subst}
 use Rattle.ld_wire.specs.Heads.{heads_view}
-use Rattle.ld_wire.specs.Reader.{FedAt, HasFault, HasRead, IsWhole}
+use Rattle.ld_wire.specs.Reader.{FedAt, HasFault, ShowsResponse, IsWhole}
 use Rattle.ld_wire.specs.ReaderView.{ReaderView}
 use Rattle.ld_wire.specs.Response.{Response}
 use Rattle.ld_wire.specs.declared.body_place.BodyPlace.TheVariants as places
@@ -81,7 +81,7 @@ returns-in-Whole-clause-answer c ended bytes fed =
     let i = c.self.inside in
     let is = fed_inside view i.heads i.stage stages.Whole i.held.items i.body.items ended bytes c.self.view_is c.in-Whole.is fed in
     let P : ReaderView → Type 0 = λ v. (whole : ℕ) × (response : Response)
-    × IsWhole v.heads.for_head true bytes whole response × HasRead v.heads v.body response in
+    × IsWhole v.heads.for_head true bytes whole response × ShowsResponse v.heads v.body response in
     subst P c.self.view_is (whole_end (heads_view i.heads) i.held.items i.body.items ended bytes is)
 
 pub returns-in-Head-clause-fed : goal.returns-in-Head-clause-fed

@@ -1,7 +1,7 @@
 use Rattle.std.proofs.Common.{◌≡◌, ◌-◌, ℕ, length, subst}
 use Rattle.ld_wire.specs.Heads.{heads_view}
 use Rattle.ld_wire.specs.Kept.{reader_view}
-use Rattle.ld_wire.specs.Reader.{FedAt, HasFault, HasRead, IsWhole, with_piece}
+use Rattle.ld_wire.specs.Reader.{FedAt, HasFault, ShowsResponse, IsWhole, with_piece}
 use Rattle.ld_wire.specs.ReaderView.{ReaderView}
 use Rattle.ld_wire.specs.Response.{Response}
 use Rattle.ld_wire.specs.declared.stage.Stage.{Stage}
@@ -42,7 +42,7 @@ returns-in-Whole-clause-answer c ended bytes fed =
     let is = fed_inside view i.heads i.stage stages.Whole i.held.items i.body.items ended bytes c.self.view_is c.in-Whole.is fed in
     let P : ReaderView → Type 0 = λ v. (whole : ℕ) × (response : Response)
     × IsWhole v.heads.for_head ended (with_piece ended bytes c.args.piece.now) whole response
-    × HasRead v.heads v.body response × (0 ≡ whole - length bytes) in
+    × ShowsResponse v.heads v.body response × (0 ≡ whole - length bytes) in
     subst P c.self.view_is (whole_again (heads_view i.heads) i.held.items i.body.items ended bytes c.args.piece.now is)
 
 pub returns-in-Head-clause-fed : goal.returns-in-Head-clause-fed
