@@ -22,3 +22,4 @@ pub mod AdvanceLemmas
 pub mod OpenChunkLemmas
 pub mod OpenLemmas
 pub mod ReaderLemmas
+pub mod CutLemmas

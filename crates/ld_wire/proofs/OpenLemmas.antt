@@ -101,7 +101,7 @@ behind_heads heads framing front text is =
     ap (λ (t : List ℕ). t ++ text) is.bytes_are ∙ append_assoc (print_heads is.before) (print_response is.final) text
 
 -- a whole response in the bytes has the same final head
-same_body : (heads : HeadsView) (framing : Follows) (front text whole rest : List ℕ) (ended : Bool) (response : Response) → BehindHead heads framing front
+pub same_body : (heads : HeadsView) (framing : Follows) (front text whole rest : List ℕ) (ended : Bool) (response : Response) → BehindHead heads framing front
     → framing ≢ Head → front ++ text ≡ whole ++ rest → (w : IsResponse heads.for_head ended whole response) → (w.framing ≡ framing) × (text ≡ w.text ++ rest)
 same_body heads framing front text whole rest ended response is other same w =
     let right = print_response w.final ++ (w.text ++ rest) in
