@@ -6,6 +6,7 @@ mod options;
 mod plans;
 mod refusals;
 mod requests;
+mod responses;
 mod scripts;
 mod segments;
 mod sets;

@@ -28,7 +28,7 @@ abbrev pub more_bytes : ℕ → Chunk → ℕ
 more_bytes total chunk = total + length chunk.bytes
 
 -- what stands behind a chunk's size line
-behind_line : (chunk : Chunk) (rest : List ℕ)
+pub behind_line : (chunk : Chunk) (rest : List ℕ)
     → print_chunk chunk ++ rest ≡ print_chunk_line chunk.line ++ (chunk.bytes ++ (crlf_bytes ++ rest))
 behind_line chunk rest =
     append_assoc (print_chunk_line chunk.line) (chunk.bytes ++ crlf_bytes) rest
@@ -37,7 +37,7 @@ behind_line chunk rest =
 chunk_alike : (a b : Chunk) → a.line ≡ b.line → a.bytes ≡ b.bytes → a ≡ b
 chunk_alike a b lines bytes = λ i. record { line = lines i; bytes = bytes i }
 
-chunks_unique : AreUnique print_chunk Item
+pub chunks_unique : AreUnique print_chunk Item
 chunks_unique k a b r q x y same =
     let lines = size_unique a.line b.line (a.bytes ++ (crlf_bytes ++ r)) (b.bytes ++ (crlf_bytes ++ q)) x.0.line y.0.line
     (sym (behind_line a r) ∙ same ∙ behind_line b q) in
@@ -52,7 +52,7 @@ chain_of_chunks total (chunk ∷ chunks) are short =
     let long = length-append chunk.bytes (carried chunks) in
     ((are.0, omega arith), chain_of_chunks (total + length chunk.bytes) chunks are.1 (omega arith))
 
-total_behind : (total : ℕ) (chunks : List Chunk) → after more_bytes total chunks ≡ total + length (carried chunks)
+pub total_behind : (total : ℕ) (chunks : List Chunk) → after more_bytes total chunks ≡ total + length (carried chunks)
 total_behind total [] = omega arith
 total_behind total (chunk ∷ chunks) =
     let long = length-append chunk.bytes (carried chunks) in
@@ -65,7 +65,7 @@ abbrev pub IsLast : ℕ → List ℕ → Type 0
 IsLast total text = IsEnd print_chunk Item total text
 
 -- at the line of size 0
-last_end : (total : ℕ) (last : ChunkLine) (rest : List ℕ) → IsSizeLine last → chunk_size last ≡ 0
+pub last_end : (total : ℕ) (last : ChunkLine) (rest : List ℕ) → IsSizeLine last → chunk_size last ≡ 0
     → IsLast total (print_chunk_line last ++ rest)
 last_end total last rest line ends chunk more item same =
     let lines = size_unique last chunk.line rest (chunk.bytes ++ (crlf_bytes ++ more)) line item.0.line (same ∙ behind_line chunk more) in
@@ -131,14 +131,14 @@ no_last_fault total last trailer rest fault line ends short is refuses =
     no_fault total (suc size) trailer rest text fault none short is same (inr bad) = absurd (omega arith)
 
 -- a body's text, with what follows it, from its last line on
-behind_chunks : (text body rest : List ℕ) (is : IsChunked text body)
+pub behind_chunks : (text body rest : List ℕ) (is : IsChunked text body)
     → text ++ rest ≡ print_chunks is.chunks ++ (print_chunk_line is.last ++ (is.trailer ++ rest))
 behind_chunks text body rest is =
     ap (λ (t : List ℕ). t ++ rest) is.text_is
     ∙ append_assoc (print_chunks is.chunks) (print_chunk_line is.last ++ is.trailer) rest
     ∙ ap (λ (t : List ℕ). print_chunks is.chunks ++ t) (append_assoc (print_chunk_line is.last) is.trailer rest)
 
-carried_short : (text body : List ℕ) (is : IsChunked text body) → length (carried is.chunks) ≤ body_limit
+pub carried_short : (text body : List ℕ) (is : IsChunked text body) → length (carried is.chunks) ≤ body_limit
 carried_short text body is = let same = ap length is.body_is in let short = is.short in omega arith
 
 pub chunked_unique : (a b x y r q : List ℕ) → IsChunked a x → IsChunked b y → a ++ r ≡ b ++ q → (a ≡ b) × (x ≡ y)
@@ -163,7 +163,7 @@ why_end total text fault (inl bad) = bad_size_end total text bad.1
 why_end total text fault (inr bad) = refused_end total text fault bad
 
 -- the same, where the total is written as it is counted
-why_last : (chunks : List Chunk) (text : List ℕ) (fault : WireFault)
+pub why_last : (chunks : List Chunk) (text : List ℕ) (fault : WireFault)
     → HasSizeFault text fault ⊎ LineRefuses (length (carried chunks)) text fault → IsLast (after more_bytes 0 chunks) text
 why_last chunks text fault why =
     let P : ℕ → Type 0 = λ total. IsLast total text in

@@ -12,7 +12,6 @@ use Rattle.httparse.specs.declared.Status.TheVariants.{Complete, Partial}
 use Rattle.httparse.specs.Outcome.{OnPartial}
 use Rattle.httparse.specs.Spans.{ResponseExceeds}
 use Rattle.ld_wire.specs.Chunks.{HasBadSize, size_line_limit}
-use Rattle.ld_wire.specs.Found.{header_room}
 use Rattle.ld_wire.specs.Head.{head_limit}
 use Rattle.ld_wire.specs.Response.{HasHeadFault}
 use Rattle.ld_wire.specs.declared.fault.WireFault.TheVariants.{BadHead, HeadTooLong}
@@ -56,8 +55,8 @@ length_head head is =
     omega arith
 
 -- so a head has no more headers than there is room for
-few_headers : (room : ℕ) (bytes : List ℕ) → header_room ≤ room → length bytes ≤ head_limit → ResponseExceeds room bytes → ⊥
-few_headers room bytes many short exceeds =
+few_headers : (room : ℕ) (bytes : List ℕ) → length bytes ≤ 3 * room → ResponseExceeds room bytes → ⊥
+few_headers room bytes many exceeds =
     let front = exceeds.0 in
     let rest = exceeds.1 in
     let head = exceeds.3 in
@@ -80,7 +79,7 @@ never_head bytes short never =
     inl (refl, subst P (sym window) never)
 
 -- an error of the parser means that no head can come
-pub bad_head : (bytes : List ℕ) (room : ℕ) (error : Error) → header_room ≤ room → length bytes ≤ head_limit
+pub bad_head : (bytes : List ℕ) (room : ℕ) (error : Error) → length bytes ≤ 3 * room → length bytes ≤ head_limit
     → (error ≢ errors.TooManyHeaders → NeverHasResponse bytes) → (error ≡ errors.TooManyHeaders → ResponseExceeds room bytes)
     → HasHeadFault bytes BadHead
 bad_head bytes room errors.HeaderName many short never exceeds = never_head bytes short (never (λ e. absurd (cc)))
@@ -88,7 +87,7 @@ bad_head bytes room errors.HeaderValue many short never exceeds = never_head byt
 bad_head bytes room errors.NewLine many short never exceeds = never_head bytes short (never (λ e. absurd (cc)))
 bad_head bytes room errors.Status many short never exceeds = never_head bytes short (never (λ e. absurd (cc)))
 bad_head bytes room errors.Token many short never exceeds = never_head bytes short (never (λ e. absurd (cc)))
-bad_head bytes room errors.TooManyHeaders many short never exceeds = absurd (few_headers room bytes many short (exceeds refl))
+bad_head bytes room errors.TooManyHeaders many short never exceeds = absurd (few_headers room bytes many (exceeds refl))
 bad_head bytes room errors.Version many short never exceeds = never_head bytes short (never (λ e. absurd (cc)))
 
 -- as many bytes as are looked at, which may still become a head, have a head that is too long

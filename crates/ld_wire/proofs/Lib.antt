@@ -12,3 +12,14 @@ pub mod StayLemmas
 pub mod TrailerLemmas
 pub mod StandingLemmas
 pub mod SizeLemmas
+pub mod TrailerStepLemmas
+pub mod ChunkStepLemmas
+pub mod HandedLemmas
+pub mod BodyLemmas
+pub mod HeadStepLemmas
+pub mod HeadsLemmas
+pub mod AdvanceLemmas
+pub mod OpenChunkLemmas
+pub mod OpenLemmas
+pub mod ReaderLemmas
+pub mod CutLemmas

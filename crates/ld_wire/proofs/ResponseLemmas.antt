@@ -23,10 +23,10 @@ one_more before head = before + 1
 abbrev pub IsFinal : Bool → ℕ → List ℕ → Type 0
 IsFinal for_head before bytes = IsEnd print_response (Interim for_head) before bytes
 
-interims_unique : (for_head : Bool) → AreUnique print_response (Interim for_head)
+pub interims_unique : (for_head : Bool) → AreUnique print_response (Interim for_head)
 interims_unique for_head k a b r q x y same = head_unique a b r q x.0 y.0 same
 
-chain_of_interims : (for_head : Bool) (before : ℕ) (heads : List ResponseHead) → AreInterims for_head before heads
+pub chain_of_interims : (for_head : Bool) (before : ℕ) (heads : List ResponseHead) → AreInterims for_head before heads
     → Chain (Interim for_head) one_more before heads
 chain_of_interims for_head before [] are = tt
 chain_of_interims for_head before (head ∷ heads) are = ((are.0, are.1), chain_of_interims for_head (before + 1) heads are.2)
@@ -54,13 +54,13 @@ followed_final r text fault followed is =
     let P : Result Follows WireFault → Type 0 = λ s. FollowedBy s text fault in
     subst P is followed
 
-final_end : (for_head : Bool) (before : ℕ) (head : ResponseHead) (rest : List ℕ) → IsHead head
+pub final_end : (for_head : Bool) (before : ℕ) (head : ResponseHead) (rest : List ℕ) → IsHead head
     → follows_head for_head before head ≢ Ok Head → IsFinal for_head before (print_response head ++ rest)
 final_end for_head before head rest is final other more interim same =
     let heads = head_unique head other rest more is interim.0 same in
     final (ap (follows_head for_head before) heads.0 ∙ interim.1)
 
-fault_none : (bytes : List ℕ) (fault : WireFault) → HasHeadFault bytes fault → HasNoResponse (take head_limit bytes)
+pub fault_none : (bytes : List ℕ) (fault : WireFault) → HasHeadFault bytes fault → HasNoResponse (take head_limit bytes)
 fault_none bytes fault (inl bad) = none_of_bad_head bytes bad.1
 fault_none bytes fault (inr long) = long.1.none
 
@@ -138,14 +138,14 @@ framed_of for_head ended bytes response is =
     subst P (sym is.framed) is.body
 
 -- the count of interim heads, as it is counted
-final_here : (for_head : Bool) (heads : List ResponseHead) (bytes : List ℕ) → IsFinal for_head (length heads) bytes
+pub final_here : (for_head : Bool) (heads : List ResponseHead) (bytes : List ℕ) → IsFinal for_head (length heads) bytes
     → IsFinal for_head (after one_more 0 heads) bytes
 final_here for_head heads bytes is =
     let P : ℕ → Type 0 = λ k. IsFinal for_head k bytes in
     let same : length heads ≡ after one_more 0 heads = let t = count_behind 0 heads in omega arith in
     subst P same is
 
-final_of : (for_head ended : Bool) (bytes : List ℕ) (response : Response) (is : IsResponse for_head ended bytes response) (rest : List ℕ)
+pub final_of : (for_head ended : Bool) (bytes : List ℕ) (response : Response) (is : IsResponse for_head ended bytes response) (rest : List ℕ)
     → IsFinal for_head (after one_more 0 is.interims) (print_response is.final ++ rest)
 final_of for_head ended bytes response is rest =
     final_here for_head is.interims (print_response is.final ++ rest)
@@ -191,13 +191,13 @@ why_final for_head before bytes fault (inl refuses) =
     (followed_final (follows_head for_head before refuses.head) refuses.text fault refuses.why))
 why_final for_head before bytes fault (inr is) = fault_end for_head before bytes fault is
 
-refuses_final : (for_head : Bool) (bytes : List ℕ) (fault : WireFault) (is : Refuses for_head bytes fault)
+pub refuses_final : (for_head : Bool) (bytes : List ℕ) (fault : WireFault) (is : Refuses for_head bytes fault)
     → IsFinal for_head (after one_more 0 is.interims) is.rest
 refuses_final for_head bytes fault is =
     final_here for_head is.interims is.rest (why_final for_head (length is.interims) is.rest fault is.why)
 
 -- a head that is there isn't at fault in its own form
-no_head_fault : (head : ResponseHead) (rest : List ℕ) (fault : WireFault) → IsHead head → HasHeadFault (print_response head ++ rest) fault → ⊥
+pub no_head_fault : (head : ResponseHead) (rest : List ℕ) (fault : WireFault) → IsHead head → HasHeadFault (print_response head ++ rest) fault → ⊥
 no_head_fault head rest fault is bad = no_head head rest is (fault_none (print_response head ++ rest) fault bad)
 
 -- bytes that begin with a whole response have no fault

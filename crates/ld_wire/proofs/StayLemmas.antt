@@ -58,7 +58,7 @@ long_head_stays bytes more is =
       unsure = λ bad. is.unsure (subst Q window bad);
     }
 
-head_fault_stays : (bytes more : List ℕ) (fault : WireFault) → HasHeadFault bytes fault → HasHeadFault (bytes ++ more) fault
+pub head_fault_stays : (bytes more : List ℕ) (fault : WireFault) → HasHeadFault bytes fault → HasHeadFault (bytes ++ more) fault
 head_fault_stays bytes more fault (inl bad) = inl (bad.0, bad_head_stays bytes more bad.1)
 head_fault_stays bytes more fault (inr long) = inr (long.0, long_head_stays bytes more long.1)
 

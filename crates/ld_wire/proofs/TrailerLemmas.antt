@@ -159,6 +159,25 @@ part_end k part one line rest is same =
     let long = length-append rest (10 ∷ []) in
     omega arith
 
+-- no front of a trailer as far as it came is a whole one
+pub no_front : (line : LineSoFar) (text front behind : List ℕ) → IsTrailerSoFar line text → IsTrailer front → text ≡ front ++ behind → ⊥
+no_front line text front behind is trailer same =
+    let left = ap (λ (t : List ℕ). t ++ behind) trailer.text_is ∙ append_assoc (flat_map print_line trailer.lines) (print_end trailer.end) behind in
+    let chained = chain_unique print_line Line same_number lines_unique 0 trailer.lines is.lines (print_end trailer.end ++ behind) is.part
+    (line_chain 0 trailer.lines trailer.form) (line_chain 0 is.lines is.form) (sym left ∙ sym same ∙ is.text_is)
+    (lines_end (after same_number 0 trailer.lines) trailer.end behind) (part_end (after same_number 0 is.lines) is.part is.one) in
+    no_feed trailer.end behind is.part is.one chained.1
+  where
+    no_feed : (end : LineEnd) (behind part : List ℕ) → AllPass is_line_byte part → print_end end ++ behind ≡ part → ⊥
+    no_feed end behind part one same =
+        let aligned : part ++ 10 ∷ [] ≡ empty_line end ++ 10 ∷ (behind ++ 10 ∷ []) =
+        ap (λ (t : List ℕ). t ++ 10 ∷ []) (sym same ∙ end_is end behind) ∙ append_assoc (print_line (empty_line end)) behind (10 ∷ [])
+        ∙ append_assoc (empty_line end) (10 ∷ []) (behind ++ 10 ∷ []) in
+        let both = run_unique is_line_byte part (empty_line end) (10 ∷ []) (10 ∷ (behind ++ 10 ∷ [])) one (empty_one end) refl refl aligned in
+        let rests = ap length both.1 in
+        let long = length-append behind (10 ∷ []) in
+        omega arith
+
 -- as many bytes as a trailer may have, with none of them ending it, are too many
 pub long_trailer : (line : LineSoFar) (text more : List ℕ) → IsTrailerSoFar line text → trailer_limit ≤ length text → HasLongTrailer (text ++ more)
 long_trailer line text more is long =
@@ -175,24 +194,6 @@ long_trailer line text more is long =
           sym (take-append-drop (length front) text) ∙ ap (λ (t : List ℕ). t ++ behind) front_is in
           no_front line text front behind is trailer text_is;
     }
-  where
-    no_front : (line : LineSoFar) (text front behind : List ℕ) → IsTrailerSoFar line text → IsTrailer front → text ≡ front ++ behind → ⊥
-    no_front line text front behind is trailer same =
-        let left = ap (λ (t : List ℕ). t ++ behind) trailer.text_is ∙ append_assoc (flat_map print_line trailer.lines) (print_end trailer.end) behind in
-        let chained = chain_unique print_line Line same_number lines_unique 0 trailer.lines is.lines (print_end trailer.end ++ behind) is.part
-        (line_chain 0 trailer.lines trailer.form) (line_chain 0 is.lines is.form) (sym left ∙ sym same ∙ is.text_is)
-        (lines_end (after same_number 0 trailer.lines) trailer.end behind) (part_end (after same_number 0 is.lines) is.part is.one) in
-        no_feed trailer.end behind is.part is.one chained.1
-      where
-        no_feed : (end : LineEnd) (behind part : List ℕ) → AllPass is_line_byte part → print_end end ++ behind ≡ part → ⊥
-        no_feed end behind part one same =
-            let aligned : part ++ 10 ∷ [] ≡ empty_line end ++ 10 ∷ (behind ++ 10 ∷ []) =
-            ap (λ (t : List ℕ). t ++ 10 ∷ []) (sym same ∙ end_is end behind) ∙ append_assoc (print_line (empty_line end)) behind (10 ∷ [])
-            ∙ append_assoc (empty_line end) (10 ∷ []) (behind ++ 10 ∷ []) in
-            let both = run_unique is_line_byte part (empty_line end) (10 ∷ []) (10 ∷ (behind ++ 10 ∷ [])) one (empty_one end) refl refl aligned in
-            let rests = ap length both.1 in
-            let long = length-append behind (10 ∷ []) in
-            omega arith
 
 -- ---- what the code keeps
 

@@ -5,10 +5,6 @@ use Rattle.httparse.specs.Spans.{IsChunkLineAt}
 use Rattle.ld_wire.specs.Chunks.{size_line_limit}
 use Rattle.ld_wire.specs.Head.{head_limit}
 
--- room for more headers than a head can have
-abbrev pub header_room : ℕ
-header_room = 22000
-
 -- there is no whole head yet, and one can still come
 pub record IsOpenHead (bytes : List ℕ) : Type 0 where
   pub none : HasNoResponse bytes

@@ -89,6 +89,10 @@ has_no_body for_head status = for_head || ((status == 204) || (status == 304))
 abbrev pub is_interim : ℕ → Bool
 is_interim status = status / 100 == 1
 
+-- a head whose status is told: no interim one, or one that leaves HTTP
+abbrev pub is_told : ℕ → Bool
+is_told status = not (is_interim status) || (status == 101)
+
 -- what follows a head of this status and these headers, behind so many interim heads, for a HEAD request or not; or
 -- the first of its faults
 abbrev pub follows : Bool → ℕ → ℕ → List Header → Result Follows WireFault

@@ -6,4 +6,9 @@ pub mod Chunks
 pub mod Response
 pub mod Trailer
 pub mod Found
+pub mod Heads
 pub mod Standing
+pub mod Body
+pub mod Reader
+pub mod ReaderView
+pub mod Kept

@@ -1,5 +1,5 @@
 -- A body in chunks as far as it came.
-use Rattle.std.specs.Prelude.{◌≡◌, ◌<◌, ◌≤◌, ℕ, zero, suc, ◌+◌, List, [], ◌∷◌, ◌++◌, length, take}
+use Rattle.std.specs.Prelude.{◌≡◌, ◌≢◌, ◌<◌, ◌≤◌, ℕ, zero, suc, ◌+◌, List, [], ◌∷◌, ◌++◌, length, take}
 use Rattle.std.specs.List.{AllByRecursion}
 use Rattle.httparse.specs.Ascii.{carriage_return}
 use Rattle.httparse.specs.Grammar.{ChunkLine, print_chunk_line, chunk_size}
@@ -74,4 +74,10 @@ place_of (suc size) = Data (suc size)
 pub record Steps (step : ChunkStep) (held body text piece : List ℕ) : Type 0 where
   pub inside : step.used ≤ length piece
   pub some : 0 < length piece → 0 < step.used
+  pub stands : StandsAt step.place held body (text ++ take step.used piece)
+
+-- steps over bytes of a piece up to its end, or to the end of the body
+pub record Takes (step : ChunkStep) (held body text piece : List ℕ) : Type 0 where
+  pub inside : step.used ≤ length piece
+  pub all : step.place ≢ Whole → step.used ≡ length piece
   pub stands : StandsAt step.place held body (text ++ take step.used piece)
