@@ -166,8 +166,10 @@ fn put_bytes(into: &mut Vec<u8>, text: &str) -> Result<(), Fail> {
 // Appends a piece that a text gives with a star and a number, so many times.
 fn put_times(into: &mut Vec<u8>, piece: &str) -> Result<(), Fail> {
     let (text, times) = piece.rsplit_once('*').unwrap_or((piece, "1"));
+    let mut once = Vec::new(*into.allocator());
+    put_bytes(&mut once, text)?;
     for _ in 0..number(times) {
-        put_bytes(into, text)?;
+        into.extend_from_slice(&once)?;
     }
     Ok(())
 }
