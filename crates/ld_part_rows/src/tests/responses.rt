@@ -132,8 +132,9 @@ GET <\r\n*32767>HT => HeadTooLong 0
 GET <\r\n*32767>HH => BadHead 0
 GET HTTP/1.1 200 OK\r\nTransfer-Encoding: chunked\r\n\r\n1;<x*4092>\r\n => Again 200
 GET HTTP/1.1 200 OK\r\nTransfer-Encoding: chunked\r\n\r\n1;<x*4093>\r\n => BadChunk 200
-GET HTTP/1.1 200 OK\r\nTransfer-Encoding: chunked\r\n\r\n0\r\n<a\r\n*21844>aa\r\n => Again 200
-GET HTTP/1.1 200 OK\r\nTransfer-Encoding: chunked\r\n\r\n0\r\n<a\r\n*21844>aa\r\n\n => BadChunk 200
+GET HTTP/1.1 200 OK\r\nTransfer-Encoding: chunked\r\n\r\n0\r\n<a\r\n*21844>aa\r => Again 200
+GET HTTP/1.1 200 OK\r\nTransfer-Encoding: chunked\r\n\r\n0\r\n<a\r\n*21844>aa\r\n => BadChunk 200
+GET HTTP/1.1 200 OK\r\nTransfer-Encoding: chunked\r\n\r\n0\r\n<a\r\n*21844>a\n\r\n => Whole 65586 200 ""
 GET HTTP/1.1 200 OK\r\n\r\n<0123456789abcdef*1048576> => Again 200
 GET HTTP/1.1 200 OK\r\n\r\n<0123456789abcdef*1048576>x => BodyTooLong 200"#;
 
