@@ -63,16 +63,18 @@ fn widen(room: &mut Vec<HeaderSpan>, bytes: usize) -> Result<(), WireFault>
     Ok(())
 }
 
-// The bytes up to and with the first empty line, where a head may end, or all of them.
+// The bytes up to and with the first empty line behind another, where a head may end, or all of them.
 fn through_empty_line(piece: &[u8]) -> usize
     ensures inside { result ≤ length piece.now }
     ensures some { 0 < length piece.now → 0 < result }
 {
+    let mut filled = false;
     let mut empty = false;
     for (at, byte) in piece.iter().enumerate() {
-        if *byte == b'\n' && empty {
+        if *byte == b'\n' && empty && filled {
             return at + 1;
         }
+        filled = filled || (*byte != b'\n' && *byte != b'\r');
         empty = *byte == b'\n' || (empty && *byte == b'\r');
     }
     piece.len()

@@ -132,8 +132,9 @@ GET <\r\n*32767>HT => HeadTooLong 0
 GET <\r\n*32767>HH => BadHead 0
 GET HTTP/1.1 200 OK\r\nTransfer-Encoding: chunked\r\n\r\n1;<x*4092>\r\n => Again 200
 GET HTTP/1.1 200 OK\r\nTransfer-Encoding: chunked\r\n\r\n1;<x*4093>\r\n => BadChunk 200
-GET HTTP/1.1 200 OK\r\nTransfer-Encoding: chunked\r\n\r\n0\r\n<a\r\n*21844>aa\r\n => Again 200
-GET HTTP/1.1 200 OK\r\nTransfer-Encoding: chunked\r\n\r\n0\r\n<a\r\n*21844>aa\r\n\n => BadChunk 200
+GET HTTP/1.1 200 OK\r\nTransfer-Encoding: chunked\r\n\r\n0\r\n<a\r\n*21844>aa\r => Again 200
+GET HTTP/1.1 200 OK\r\nTransfer-Encoding: chunked\r\n\r\n0\r\n<a\r\n*21844>aa\r\n => BadChunk 200
+GET HTTP/1.1 200 OK\r\nTransfer-Encoding: chunked\r\n\r\n0\r\n<a\r\n*21844>a\n\r\n => Whole 65586 200 ""
 GET HTTP/1.1 200 OK\r\n\r\n<0123456789abcdef*1048576> => Again 200
 GET HTTP/1.1 200 OK\r\n\r\n<0123456789abcdef*1048576>x => BodyTooLong 200"#;
 
@@ -166,8 +167,10 @@ fn put_bytes(into: &mut Vec<u8>, text: &str) -> Result<(), Fail> {
 // Appends a piece that a text gives with a star and a number, so many times.
 fn put_times(into: &mut Vec<u8>, piece: &str) -> Result<(), Fail> {
     let (text, times) = piece.rsplit_once('*').unwrap_or((piece, "1"));
+    let mut once = Vec::new(*into.allocator());
+    put_bytes(&mut once, text)?;
     for _ in 0..number(times) {
-        put_bytes(into, text)?;
+        into.extend_from_slice(&once)?;
     }
     Ok(())
 }
