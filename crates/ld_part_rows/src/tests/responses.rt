@@ -193,7 +193,7 @@ fn bytes_of(alloc: Global, text: &str) -> Result<Vec<u8>, Fail> {
 // Feeds bytes in pieces of a size: of how many bytes the response is, if it is whole.
 fn fed(reader: &mut ResponseReader, bytes: &[u8], size: usize) -> Result<Option<usize>, WireFault> {
     let mut before = 0;
-    for piece in bytes.chunks(size) {
+    for piece in bytes.chunks(size.max(1)) {
         if let Feed::Whole { used } = reader.feed(piece)? {
             return Ok(Some(used.saturating_add(before)));
         }

@@ -1,5 +1,5 @@
 // One scenario at an arrival rate: what it wishes, and what acts do to it.
-ghost use Rattle.std.specs.Prelude.{◌≡◌};
+ghost use Rattle.std.specs.Prelude.{◌≡◌, ◌≤◌};
 ghost use Rattle.ld_base.specs.declared.act.Act.TheVariants as acts;
 ghost use Rattle.ld_rates.specs.Applies.{MayApplyWished};
 
@@ -129,8 +129,15 @@ impl State for RatesState {
 fn act(alloc: Global, state: &mut RatesState, reading: u64, given: &str) -> Result<String, Fail> {
     let (free, user) = parts(given, " ");
     let wish = state.next_act(reading, matches!(free, "free"), 0);
-    perform(state, wish, count(user), reading);
+    perform(state, wish, user_of(user), reading);
     wish_text(alloc, wish)
+}
+
+// The number of a user.
+fn user_of(given: &str) -> u32
+    ensures { result ≤ 1000 }
+{
+    count(given).min(1000)
 }
 
 // A wish.
@@ -160,7 +167,8 @@ fn wish_text(alloc: Global, wish: Wish) -> Result<String, Fail> {
 
 // Performs a wish; a user that is taken or grown has this number.
 fn perform(state: &mut RatesState, wish: Wish, user: u32, reading: u64)
-    requires { MayApplyWished state.old wish }
+    requires may { MayApplyWished state.old wish }
+    requires few { user ≤ 1000 }
 {
     let scenario = 0;
     match wish {
@@ -180,23 +188,34 @@ fn perform(state: &mut RatesState, wish: Wish, user: u32, reading: u64)
             until,
             due: _,
         } => state.apply(&start_of(user, item, until), reading),
-        Wish::More {
-            item,
-            until,
-            due: _,
-            slot,
-        } => {
+        Wish::More { slot, .. } => {
             let grow = Act::Grow {
                 scenario,
                 user,
                 slot,
             };
             state.apply(&grow, reading);
-            state.apply(&start_of(user, item, until), reading);
+            let wish = state.next_act(reading, false, 0);
+            begin(state, wish, reading);
         }
         Wish::Drop { item, due: _ } => state.apply(&Act::Drop { scenario, item }, reading),
         Wish::Late { item, due: _ } => state.apply(&Act::Late { scenario, item }, reading),
         Wish::Close => state.apply(&Act::Close { scenario }, reading),
+    }
+}
+
+// Starts what the scenario wishes to start.
+fn begin(state: &mut RatesState, wish: Wish, reading: u64)
+    requires { MayApplyWished state.old wish }
+{
+    if let Wish::Start {
+        user,
+        item,
+        until,
+        ..
+    } = wish
+    {
+        state.apply(&start_of(user, item, until), reading);
     }
 }
 
@@ -222,7 +241,7 @@ fn give_back(
     let (user, item) = parts(given, " ");
     let returned = Act::Return {
         scenario: 0,
-        user: count(user),
+        user: user_of(user),
         item: number(item),
         outcome: Outcome::Done,
         tally: Tally::empty(alloc),
