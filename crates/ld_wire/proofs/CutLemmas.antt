@@ -3,7 +3,7 @@ use Rattle.std.proofs.Common.{◌≡◌, ◌≢◌, ◌⊎◌, ◌∙◌, ℕ, B
 use Rattle.std.specs.Prelude.{IsTrue}
 use Rattle.std.proofs.lemmas.List.{take-append-drop, take_all}
 use Rattle.httparse.specs.Grammar.{print_response}
-use Rattle.ld_wire.specs.Heads.{BehindHead, HeadsView}
+use Rattle.ld_wire.specs.Heads.{BehindHead, HeadsView, ShowsRefused}
 use Rattle.ld_wire.specs.Reader.{FedAt, HasFault, IsOpen, IsWhole, ShowsResponse}
 use Rattle.ld_wire.specs.ReaderView.{IsFed, ReaderView}
 use Rattle.ld_wire.specs.Response.{Begins, IsBody, IsResponse, Response, print_heads}
@@ -15,6 +15,7 @@ use Rattle.ld_wire.specs.declared.stage.Stage.{Stage}
 use Rattle.ld_wire.specs.declared.stage.Stage.TheVariants as stages
 use Rattle.ld_wire.proofs.OpenLemmas.{open_body, open_head, same_body}
 use Rattle.ld_wire.proofs.ResponseLemmas.{false_is, front_of_begins, front_of_ended, front_refuses, one_begin, one_fault, one_front}
+use Rattle.ld_wire.proofs.ShownLemmas.{one_shown}
 
 -- ---- a whole response is one
 
@@ -130,10 +131,11 @@ whole_alike stages.Whole heads held body ended bytes used response is other fed 
     let P : Response → Type 0 = λ r. ShowsResponse heads body r in
     (refl, subst P (one_whole heads.for_head ended bytes fed.0 used fed.1 response fed.2 is) fed.3)
 whole_alike (stages.Refused fault) heads held body ended bytes used response is other fed =
-    absurd (whole_sound heads.for_head ended bytes used response fault is (fed (λ same. other (ap stages.Refused same))))
+    absurd (whole_sound heads.for_head ended bytes used response fault is (fed (λ same. other (ap stages.Refused same))).0)
 
 refused_alike : (stage : Stage) (heads : HeadsView) (held body : List ℕ) (ended : Bool) (bytes : List ℕ) (fault : WireFault)
-    → HasFault heads.for_head ended bytes fault → stage ≢ stages.Refused Memory → FedAt stage heads held body ended bytes → stage ≡ stages.Refused fault
+    → HasFault heads.for_head ended bytes fault → stage ≢ stages.Refused Memory → FedAt stage heads held body ended bytes
+    → (stage ≡ stages.Refused fault) × ShowsRefused heads bytes
 refused_alike stages.Head heads held body ended bytes fault is other fed =
     absurd (open_fault heads.for_head ended bytes fault fed.0 (open_head heads bytes fed.1) is)
 refused_alike (stages.Body place) heads held body ended bytes fault is other fed =
@@ -141,7 +143,8 @@ refused_alike (stages.Body place) heads held body ended bytes fault is other fed
 refused_alike stages.Whole heads held body ended bytes fault is other fed =
     absurd (whole_sound heads.for_head ended bytes fed.0 fed.1 fault fed.2 is)
 refused_alike (stages.Refused found) heads held body ended bytes fault is other fed =
-    ap stages.Refused (same_fault heads.for_head ended bytes found fault (fed (λ same. other (ap stages.Refused same))) is)
+    let both = fed (λ same. other (ap stages.Refused same)) in
+    (ap stages.Refused (same_fault heads.for_head ended bytes found fault both.0 is), both.1)
 
 pub both_whole : (a b : ReaderView) (ended : Bool) (bytes : List ℕ) → a.heads.for_head ≡ b.heads.for_head → IsFed a ended bytes → IsFed b ended bytes
     → a.stage ≡ stages.Whole → b.stage ≢ stages.Refused Memory
@@ -158,8 +161,12 @@ both_whole a b ended bytes same x y whole other =
     )
 
 pub both_refused : (a b : ReaderView) (ended : Bool) (bytes : List ℕ) (fault : WireFault) → a.heads.for_head ≡ b.heads.for_head → IsFed a ended bytes
-    → IsFed b ended bytes → a.stage ≡ stages.Refused fault → fault ≢ Memory → b.stage ≢ stages.Refused Memory → b.stage ≡ stages.Refused fault
+    → IsFed b ended bytes → a.stage ≡ stages.Refused fault → fault ≢ Memory → b.stage ≢ stages.Refused Memory
+    → (b.stage ≡ stages.Refused fault) × (a.heads.status ≡ b.heads.status) × (a.heads.headers ≡ b.heads.headers)
 both_refused a b ended bytes fault same x y refused sound other =
     let P : Stage → Type 0 = λ s. FedAt s a.heads a.held a.body ended bytes in
     let Q : Bool → Type 0 = λ h. HasFault h ended bytes fault in
-    refused_alike b.stage b.heads b.held b.body ended bytes fault (subst Q same (subst P refused x sound)) other y
+    let left = subst P refused x sound in
+    let right = refused_alike b.stage b.heads b.held b.body ended bytes fault (subst Q same left.0) other y in
+    let shown = one_shown a.heads b.heads bytes same left.1 right.1 in
+    (right.0, shown.0, shown.1)

@@ -79,7 +79,7 @@ room_is heads none =
     }) in
     subst P (sym none) (record { count = omega arith; within = search rules })
 
-no_headers : (bytes : List ℕ) (count : ℕ) (room : List HeaderSpan) → count ≡ 0 → map (header_bytes bytes) (take count room) ≡ []
+pub no_headers : (bytes : List ℕ) (count : ℕ) (room : List HeaderSpan) → count ≡ 0 → map (header_bytes bytes) (take count room) ≡ []
 no_headers bytes count room none = ap (λ (n : ℕ). map (header_bytes bytes) (take n room)) none
 
 -- ---- a head isn't whole yet

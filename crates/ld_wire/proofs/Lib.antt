@@ -21,5 +21,6 @@ pub mod HeadsLemmas
 pub mod AdvanceLemmas
 pub mod OpenChunkLemmas
 pub mod OpenLemmas
+pub mod ShownLemmas
 pub mod ReaderLemmas
 pub mod CutLemmas

@@ -22,7 +22,7 @@ use Rattle.ld_wire.proofs.ResponseLemmas.{Interim, IsFinal, chain_of_interims, f
 -- ---- in a head
 
 -- no head begins there
-no_head_at : (for_head : Bool) (k : ℕ) (text : List ℕ) → IsOpenHead text → IsFinal for_head k text
+pub no_head_at : (for_head : Bool) (k : ℕ) (text : List ℕ) → IsOpenHead text → IsFinal for_head k text
 no_head_at for_head k text is head rest interim same = is.none head rest (interim.0.form, same)
 
 head_unfinished : (heads : HeadsView) (bytes front rest : List ℕ) (ended : Bool) (response : Response) → InHead heads bytes → bytes ≡ front ++ rest
@@ -75,13 +75,13 @@ cut_head heads bytes is = record {
 
 -- ---- in a body
 
-stands_framed : (framing : Follows) (place : BodyPlace) (held body text : List ℕ) → place ≢ places.Whole → BodyStands framing place held body text → framing ≢ Head
+pub stands_framed : (framing : Follows) (place : BodyPlace) (held body text : List ℕ) → place ≢ places.Whole → BodyStands framing place held body text → framing ≢ Head
 stands_framed framing (places.Bytes left) held body text other is same = absurd (let e = sym is.framed ∙ same in cc)
 stands_framed framing (places.Chunks at) held body text other is same = absurd (let e = sym is.0 ∙ same in cc)
 stands_framed framing places.Close held body text other is same = absurd (let e = sym is.framed ∙ same in cc)
 stands_framed framing places.Whole held body text other is same = absurd (other refl)
 
-ok_is : (a b : Follows) → ◌≡◌ {A = Result Follows WireFault} (Ok a) (Ok b) → a ≡ b
+pub ok_is : (a b : Follows) → ◌≡◌ {A = Result Follows WireFault} (Ok a) (Ok b) → a ≡ b
 ok_is a b same = ap value same
   where
     value : Result Follows WireFault → Follows

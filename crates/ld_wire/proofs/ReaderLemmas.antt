@@ -2,7 +2,7 @@
 use Rattle.std.proofs.Common.{◌≡◌, ◌≢◌, ◌≤◌, ◌+◌, ◌-◌, ◌∙◌, ℕ, Bool, true, false, List, ◌++◌, length, arith, sym, subst, refl, inl, inr, Result, Ok, Err}
 use Rattle.std.specs.Prelude.{IfErr, IfOk}
 use Rattle.ld_wire.specs.Body.{BodyStands}
-use Rattle.ld_wire.specs.Heads.{BehindHead, HeadsView, InHead, heads_view}
+use Rattle.ld_wire.specs.Heads.{BehindHead, HeadsView, InHead, ShowsRefused, heads_view}
 use Rattle.ld_wire.specs.Kept.{reader_view}
 use Rattle.ld_wire.specs.Reader.{AdvancesTo, FedAt, HasFault, ShowsResponse, InBody, IsOpen, IsWhole, feed_at, feed_of, stage_behind, with_piece}
 use Rattle.ld_wire.specs.ReaderView.{FeedAnswers, IsFed, ReaderView}
@@ -20,6 +20,7 @@ use Rattle.ld_wire.specs.declared.stage.Stage.{Stage}
 use Rattle.ld_wire.specs.declared.stage.Stage.TheVariants as stages
 use Rattle.ld_wire.proofs.OpenLemmas.{behind_heads, cut_body, cut_head, open_body, open_head}
 use Rattle.ld_wire.proofs.ResponseLemmas.{false_is}
+use Rattle.ld_wire.proofs.ShownLemmas.{body_shown, cut_shown, head_shown, shown_stays}
 use Rattle.ld_wire.proofs.StayLemmas.{begin_stays, fault_stays}
 
 -- ---- what a reader was fed, by its fields
@@ -61,18 +62,30 @@ whole_again heads held body ended bytes piece is =
     let inside = whole_inside heads.for_head ended bytes is.0 is.1 is.2 in
     (is.0, is.1, whole_more heads.for_head ended bytes piece is.0 is.1 is.2, is.3, omega arith)
 
-pub fault_more : (for_head ended : Bool) (bytes piece : List ℕ) (fault : WireFault) → HasFault for_head ended bytes fault
+fault_more : (for_head ended : Bool) (bytes piece : List ℕ) (fault : WireFault) → HasFault for_head ended bytes fault
     → HasFault for_head ended (with_piece ended bytes piece) fault
 fault_more for_head true bytes piece fault is = is
 fault_more for_head false bytes piece fault (inl refuses) = inl (fault_stays for_head bytes piece fault refuses)
 fault_more for_head false bytes piece fault (inr cut) = absurd (false_is cut.1)
+
+shown_more : (heads : HeadsView) (ended : Bool) (bytes piece : List ℕ) (fault : WireFault) → HasFault heads.for_head ended bytes fault
+    → ShowsRefused heads bytes → ShowsRefused heads (with_piece ended bytes piece)
+shown_more heads true bytes piece fault is shown = shown
+shown_more heads false bytes piece fault (inl refuses) shown = shown_stays heads bytes piece fault refuses shown
+shown_more heads false bytes piece fault (inr cut) shown = absurd (false_is cut.1)
+
+pub refused_more : (heads : HeadsView) (ended : Bool) (bytes piece : List ℕ) (fault : WireFault)
+    → HasFault heads.for_head ended bytes fault × ShowsRefused heads bytes
+    → HasFault heads.for_head ended (with_piece ended bytes piece) fault × ShowsRefused heads (with_piece ended bytes piece)
+refused_more heads ended bytes piece fault is =
+    (fault_more heads.for_head ended bytes piece fault is.0, shown_more heads ended bytes piece fault is.0 is.1)
 
 -- ---- behind a step
 
 -- what the step says of the bytes
 pub record Steps (result : Result Advance WireFault) (heads : HeadsView) (held body bytes piece : List ℕ) : Type 0 where
   pub ok : IfOk result (λ step. AdvancesTo step.stage step.used heads held body bytes piece)
-  pub err : IfErr result (λ fault. fault ≢ Memory → Refuses heads.for_head (bytes ++ piece) fault)
+  pub err : IfErr result (λ fault. fault ≢ Memory → Refuses heads.for_head (bytes ++ piece) fault × ShowsRefused heads (bytes ++ piece))
 
 fed_at : (stage : Stage) (used : ℕ) (heads : HeadsView) (held body bytes piece : List ℕ) → AdvancesTo stage used heads held body bytes piece
     → FedAt stage heads held body false (bytes ++ piece)
@@ -84,7 +97,7 @@ fed_at (stages.Refused fault) used heads held body bytes piece is = absurd is
 pub step_fed : (result : Result Advance WireFault) (heads : HeadsView) (held body bytes piece : List ℕ) → Steps result heads held body bytes piece
     → FedAt (stage_behind result) heads held body false (bytes ++ piece)
 step_fed (Ok step) heads held body bytes piece is = fed_at step.stage step.used heads held body bytes piece is.ok
-step_fed (Err fault) heads held body bytes piece is = λ other. inl (is.err other)
+step_fed (Err fault) heads held body bytes piece is = λ other. let both = is.err other in (inl both.0, both.1)
 
 answer_at : (stage : Stage) (used : ℕ) (heads : HeadsView) (held body bytes piece : List ℕ) (reader : ReaderView) → reader.heads ≡ heads → reader.body ≡ body
     → AdvancesTo stage used heads held body bytes piece → FeedAnswers (Ok (feed_at stage used)) reader false (length bytes) (bytes ++ piece)
@@ -105,19 +118,20 @@ pub step_answer : (result : Result Advance WireFault) (heads : HeadsView) (held 
     → reader.body ≡ body → Steps result heads held body bytes piece → FeedAnswers (feed_of result) reader false (length bytes) (bytes ++ piece)
 step_answer (Ok step) heads held body bytes piece reader same same_body is = answer_at step.stage step.used heads held body bytes piece reader same same_body is.ok
 step_answer (Err fault) heads held body bytes piece reader same same_body is =
-    let P : HeadsView → Type 0 = λ h. HasFault h.for_head false (bytes ++ piece) fault in
-    λ other. subst P (sym same) (inl (is.err other))
+    let P : HeadsView → Type 0 = λ h. HasFault h.for_head false (bytes ++ piece) fault × ShowsRefused h (bytes ++ piece) in
+    λ other. let both = is.err other in subst P (sym same) (inl both.0, both.1)
 
 -- ---- the steps of a head and of a body
 
 pub head_steps : (result : Result Advance WireFault) (old heads : HeadsView) (held body bytes piece : List ℕ) → heads.for_head ≡ old.for_head
     → IfOk result (λ step. (bytes : List ℕ) → InHead old bytes → AdvancesTo step.stage step.used heads held body bytes piece)
     → IfErr result (λ fault. fault ≢ Memory → (bytes : List ℕ) → InHead old bytes → Refuses old.for_head (bytes ++ piece) fault)
+    → IfErr result (λ fault. fault ≢ Memory → (bytes : List ℕ) → InHead old bytes → ShowsRefused heads (bytes ++ piece))
     → InHead old bytes → Steps result heads held body bytes piece
-head_steps (Ok step) old heads held body bytes piece same ok err is = record { ok = ok bytes is; err = tt }
-head_steps (Err fault) old heads held body bytes piece same ok err is =
+head_steps (Ok step) old heads held body bytes piece same ok err shown is = record { ok = ok bytes is; err = tt }
+head_steps (Err fault) old heads held body bytes piece same ok err shown is =
     let P : Bool → Type 0 = λ b. Refuses b (bytes ++ piece) fault in
-    record { ok = tt; err = λ other. subst P (sym same) (err other bytes is) }
+    record { ok = tt; err = λ other. (subst P (sym same) (err other bytes is), shown other bytes is) }
 
 pub body_steps : (result : Result Advance WireFault) (place : BodyPlace) (heads : HeadsView) (old_held old_body held body bytes piece : List ℕ)
     → IfOk result (λ step. (heads : HeadsView) (framing : Follows) (front text : List ℕ) → BehindHead heads framing front
@@ -130,7 +144,13 @@ body_steps (Ok step) place heads old_held old_body held body bytes piece ok err 
     record { ok = subst P (sym is.bytes_are) (ok heads is.framing is.front is.text is.behind is.stands); err = tt }
 body_steps (Err fault) place heads old_held old_body held body bytes piece ok err is =
     let P : List ℕ → Type 0 = λ t. Refuses heads.for_head (t ++ piece) fault in
-    record { ok = tt; err = λ other. subst P (sym is.bytes_are) (err other heads is.framing is.front is.text is.behind is.stands) }
+    record {
+      ok = tt;
+      err = λ other. (
+        subst P (sym is.bytes_are) (err other heads is.framing is.front is.text is.behind is.stands),
+        body_shown place heads old_held old_body bytes piece is,
+      );
+    }
 
 -- the same, where the peer didn't end
 pub fed_more : (stage : Stage) (heads : HeadsView) (held body : List ℕ) (ended : Bool) (bytes piece : List ℕ) → ended ≡ false
@@ -156,17 +176,22 @@ pub whole_end : (heads : HeadsView) (held body : List ℕ) (ended : Bool) (bytes
     → FedAt stages.Whole heads held body true bytes
 whole_end heads held body ended bytes is = (is.0, is.1, whole_ended heads.for_head ended bytes is.0 is.1 is.2, is.3)
 
-pub fault_end : (for_head ended : Bool) (bytes : List ℕ) (fault : WireFault) → HasFault for_head ended bytes fault → HasFault for_head true bytes fault
+fault_end : (for_head ended : Bool) (bytes : List ℕ) (fault : WireFault) → HasFault for_head ended bytes fault → HasFault for_head true bytes fault
 fault_end for_head ended bytes fault (inl refuses) = inl refuses
 fault_end for_head ended bytes fault (inr cut) = inr (cut.0, refl, cut.2)
 
+pub refused_end : (heads : HeadsView) (ended : Bool) (bytes : List ℕ) (fault : WireFault)
+    → HasFault heads.for_head ended bytes fault × ShowsRefused heads bytes → HasFault heads.for_head true bytes fault × ShowsRefused heads bytes
+refused_end heads ended bytes fault is = (fault_end heads.for_head ended bytes fault is.0, is.1)
+
 pub cut_in_head : (heads : HeadsView) (held body : List ℕ) (ended : Bool) (bytes : List ℕ) → FedAt stages.Head heads held body ended bytes
-    → HasFault heads.for_head true bytes CutShort
-cut_in_head heads held body ended bytes is = inr (refl, refl, cut_head heads bytes is.1)
+    → HasFault heads.for_head true bytes CutShort × ShowsRefused heads bytes
+cut_in_head heads held body ended bytes is = (inr (refl, refl, cut_head heads bytes is.1), head_shown heads bytes is.1)
 
 pub cut_in_body : (place : BodyPlace) (heads : HeadsView) (held body : List ℕ) (ended : Bool) (bytes : List ℕ) → place ≢ places.Close
-    → FedAt (stages.Body place) heads held body ended bytes → HasFault heads.for_head true bytes CutShort
-cut_in_body place heads held body ended bytes other is = inr (refl, refl, cut_body place heads held body bytes other is.1)
+    → FedAt (stages.Body place) heads held body ended bytes → HasFault heads.for_head true bytes CutShort × ShowsRefused heads bytes
+cut_in_body place heads held body ended bytes other is =
+    (inr (refl, refl, cut_body place heads held body bytes other is.1), cut_shown place heads held body bytes is.1)
 
 -- a body that ends with the close is whole
 close_ends : (heads : HeadsView) (held body bytes : List ℕ) → InBody places.Close heads held body bytes
@@ -212,6 +237,10 @@ HeadOk result old heads held body piece =
 abbrev HeadErr : Result Advance WireFault → HeadsView → List ℕ → Type 0
 HeadErr result old piece = IfErr result (λ fault. fault ≢ Memory → (bytes : List ℕ) → InHead old bytes → Refuses old.for_head (bytes ++ piece) fault)
 
+abbrev HeadShown : Result Advance WireFault → HeadsView → HeadsView → List ℕ → Type 0
+HeadShown result old heads piece =
+    IfErr result (λ fault. fault ≢ Memory → (bytes : List ℕ) → InHead old bytes → ShowsRefused heads (bytes ++ piece))
+
 abbrev BodyOk : Result Advance WireFault → BodyPlace → List ℕ → List ℕ → List ℕ → List ℕ → List ℕ → Type 0
 BodyOk result place old_held old_body held body piece =
     IfOk result (λ step. (heads : HeadsView) (framing : Follows) (front text : List ℕ) → BehindHead heads framing front
@@ -224,22 +253,22 @@ BodyErr result place old_held old_body piece =
 
 pub head_fed : (result : Result Advance WireFault) (stage : Stage) (old heads : HeadsView) (old_held old_body held body : List ℕ) (ended : Bool) (bytes piece : List ℕ)
     → stage ≡ stage_behind result → heads.for_head ≡ old.for_head → HeadOk result old heads held body piece → HeadErr result old piece
-    → FedAt stages.Head old old_held old_body ended bytes → FedAt stage heads held body ended (with_piece ended bytes piece)
-head_fed result stage old heads old_held old_body held body ended bytes piece stage_is same ok err is =
+    → HeadShown result old heads piece → FedAt stages.Head old old_held old_body ended bytes → FedAt stage heads held body ended (with_piece ended bytes piece)
+head_fed result stage old heads old_held old_body held body ended bytes piece stage_is same ok err shown is =
     let P : Stage → Type 0 = λ s. FedAt s heads held body ended (with_piece ended bytes piece) in
     subst P (sym stage_is)
     (fed_more (stage_behind result) heads held body ended bytes piece is.0
-    (step_fed result heads held body bytes piece (head_steps result old heads held body bytes piece same ok err is.1)))
+    (step_fed result heads held body bytes piece (head_steps result old heads held body bytes piece same ok err shown is.1)))
 
 pub head_answer : (result : Result Advance WireFault) (feed : Result Feed WireFault) (reader : ReaderView) (old : HeadsView) (old_held old_body : List ℕ) (ended : Bool)
     (bytes piece : List ℕ) → feed ≡ feed_of result → reader.heads.for_head ≡ old.for_head → HeadOk result old reader.heads reader.held reader.body piece → HeadErr result old piece
-    → FedAt stages.Head old old_held old_body ended bytes → FeedAnswers feed reader ended (length bytes) (with_piece ended bytes piece)
-head_answer result feed reader old old_held old_body ended bytes piece feed_is same ok err is =
+    → HeadShown result old reader.heads piece → FedAt stages.Head old old_held old_body ended bytes → FeedAnswers feed reader ended (length bytes) (with_piece ended bytes piece)
+head_answer result feed reader old old_held old_body ended bytes piece feed_is same ok err shown is =
     let P : Result Feed WireFault → Type 0 = λ r. FeedAnswers r reader ended (length bytes) (with_piece ended bytes piece) in
     subst P (sym feed_is)
     (answer_more (feed_of result) reader ended (length bytes) bytes piece is.0
     (step_answer result reader.heads reader.held reader.body bytes piece reader refl refl
-    (head_steps result old reader.heads reader.held reader.body bytes piece same ok err is.1)))
+    (head_steps result old reader.heads reader.held reader.body bytes piece same ok err shown is.1)))
 
 pub body_fed : (result : Result Advance WireFault) (stage : Stage) (place : BodyPlace) (heads : HeadsView) (old_held old_body held body : List ℕ) (ended : Bool)
     (bytes piece : List ℕ) → stage ≡ stage_behind result → BodyOk result place old_held old_body held body piece

@@ -64,7 +64,7 @@ pub fault_none : (bytes : List ℕ) (fault : WireFault) → HasHeadFault bytes f
 fault_none bytes fault (inl bad) = none_of_bad_head bytes bad.1
 fault_none bytes fault (inr long) = long.1.none
 
-fault_end : (for_head : Bool) (before : ℕ) (bytes : List ℕ) (fault : WireFault) → HasHeadFault bytes fault → IsFinal for_head before bytes
+pub fault_end : (for_head : Bool) (before : ℕ) (bytes : List ℕ) (fault : WireFault) → HasHeadFault bytes fault → IsFinal for_head before bytes
 fault_end for_head before bytes fault is head rest interim same =
     let P : List ℕ → Type 0 = λ text. HasNoResponse (take head_limit text) in
     no_head head rest interim.0 (subst P same (fault_none bytes fault is))
@@ -182,7 +182,7 @@ one_front for_head ended bytes a b x y =
 
 -- ---- faults
 
-why_final : (for_head : Bool) (before : ℕ) (bytes : List ℕ) (fault : WireFault)
+pub why_final : (for_head : Bool) (before : ℕ) (bytes : List ℕ) (fault : WireFault)
     → HeadRefuses for_head before bytes fault ⊎ HasHeadFault bytes fault → IsFinal for_head before bytes
 why_final for_head before bytes fault (inl refuses) =
     let P : List ℕ → Type 0 = λ t. IsFinal for_head before t in

@@ -141,7 +141,7 @@ followed_stays (Ok Chunks) text more fault is = chunks_stay text more fault is
 followed_stays (Ok Close) text more fault is = let long = longer text more in let over = is.1 in (is.0, omega arith)
 followed_stays (Err found) text more fault is = is
 
-why_stays : (for_head : Bool) (before : ℕ) (bytes more : List ℕ) (fault : WireFault) → HeadRefuses for_head before bytes fault ⊎ HasHeadFault bytes fault
+pub why_stays : (for_head : Bool) (before : ℕ) (bytes more : List ℕ) (fault : WireFault) → HeadRefuses for_head before bytes fault ⊎ HasHeadFault bytes fault
     → HeadRefuses for_head before (bytes ++ more) fault ⊎ HasHeadFault (bytes ++ more) fault
 why_stays for_head before bytes more fault (inl is) = inl (record {
   head = is.head;

@@ -1,11 +1,11 @@
 -- The heads of a response as far as they came.
-use Rattle.std.specs.Prelude.{◌≡◌, ◌<◌, ◌≤◌, All, ℕ, Bool, List, [], ◌++◌, length, map, take, Ok}
+use Rattle.std.specs.Prelude.{◌≡◌, ◌<◌, ◌≤◌, ◌⊎◌, All, ℕ, Bool, IsTrue, List, [], ◌++◌, length, map, take, Ok}
 use Rattle.httparse.specs.Grammar.{ResponseHead, print_response, status_code}
 use Rattle.httparse.specs.Spans.{IsHeaderWithin, header_bytes}
 use Rattle.httparse.specs.declared.spans.HeaderSpan.{HeaderSpan}
 use Rattle.httparse.specs.declared.spans.ResponseSpans.{ResponseSpans}
 use Rattle.ld_wire.specs.Found.{IsOpenHead}
-use Rattle.ld_wire.specs.Head.{Header, IsHead, follows_head, headers_of}
+use Rattle.ld_wire.specs.Head.{Header, IsHead, follows_head, headers_of, is_told}
 use Rattle.ld_wire.specs.Response.{AreInterims, print_heads}
 use Rattle.ld_wire.specs.declared.framing.Follows.{Follows}
 use Rattle.ld_wire.specs.declared.framing.Follows.TheVariants.{Head, Nothing, Bytes, Chunks, Close}
@@ -96,3 +96,21 @@ pub record HeadsTake (used : ℕ) (follows : Follows) (heads : HeadsView) (bytes
   pub inside : used ≤ length piece
   pub all : follows ≡ Head → used ≡ length piece
   pub stands : HeadsStand follows heads (bytes ++ take used piece)
+
+-- the bytes tell of this head: it is whole, behind whole interim heads, and is no interim one or has the status 101
+pub record TellsOf (for_head : Bool) (bytes : List ℕ) (head : ResponseHead) : Type 0 where
+  pub interims : List ResponseHead
+  pub rest : List ℕ
+  pub before : AreInterims for_head 0 interims
+  pub form : IsHead head
+  pub told : IsTrue (is_told (status_code head))
+  pub bytes_are : bytes ≡ print_heads interims ++ (print_response head ++ rest)
+
+-- what is shown of bytes that are refused: the status and the headers of the head that they tell of; or, where they tell
+-- of none, the status 0 and no headers
+abbrev pub ShowsRefused : HeadsView → List ℕ → Type 0
+ShowsRefused heads bytes =
+    ((head : ResponseHead) × TellsOf heads.for_head bytes head
+    × (heads.status ≡ status_code head) × (heads.headers ≡ headers_of head))
+    ⊎ (((head : ResponseHead) → ¬ (TellsOf heads.for_head bytes head))
+    × (heads.status ≡ 0) × (heads.headers ≡ []))

@@ -1,7 +1,7 @@
 -- What a reader of a response was fed, where it then stands, and what it answers.
 use Rattle.std.specs.Prelude.{◌≡◌, ◌≢◌, ◌≤◌, ◌⊎◌, ◌+◌, ℕ, Bool, IsTrue, List, [], ◌++◌, length, if◌then◌else◌, Result, Ok, Err}
 use Rattle.ld_wire.specs.Body.{BodyStands}
-use Rattle.ld_wire.specs.Heads.{BehindHead, HeadsView, InHead}
+use Rattle.ld_wire.specs.Heads.{BehindHead, HeadsView, InHead, ShowsRefused}
 use Rattle.ld_wire.specs.Response.{Begins, IsResponse, Refuses, Response}
 use Rattle.ld_wire.specs.declared.body_place.BodyPlace.{BodyPlace}
 use Rattle.ld_wire.specs.declared.body_place.BodyPlace.TheVariants as places
@@ -71,7 +71,7 @@ FedAt (stages.Body place) heads held body ended bytes = (ended ≡ Bool.false) �
 FedAt stages.Whole heads held body ended bytes =
     (used : ℕ) × (response : Response) × IsWhole heads.for_head ended bytes used response × ShowsResponse heads body response
 FedAt (stages.Refused fault) heads held body ended bytes =
-    fault ≢ Memory → HasFault heads.for_head ended bytes fault
+    fault ≢ Memory → HasFault heads.for_head ended bytes fault × ShowsRefused heads bytes
 
 -- so many bytes of a piece were taken behind the bytes, and the reading stands there
 abbrev pub AdvancesTo : Stage → ℕ → HeadsView → List ℕ → List ℕ → List ℕ → List ℕ → Type 0

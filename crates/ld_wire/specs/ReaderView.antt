@@ -1,6 +1,6 @@
 -- A reader of a response, as it is seen.
 use Rattle.std.specs.Prelude.{◌≡◌, ◌≢◌, ◌-◌, ℕ, Bool, List, Result, Ok, Err}
-use Rattle.ld_wire.specs.Heads.{HeadsView}
+use Rattle.ld_wire.specs.Heads.{HeadsView, ShowsRefused}
 use Rattle.ld_wire.specs.Reader.{FedAt, HasFault, ShowsResponse, IsOpen, IsWhole}
 use Rattle.ld_wire.specs.Response.{Response}
 use Rattle.ld_wire.specs.declared.fault.WireFault.{WireFault}
@@ -26,11 +26,13 @@ FeedAnswers (Ok feeds.Again) reader ended before bytes = (ended ≡ Bool.false) 
 FeedAnswers (Ok (feeds.Whole used)) reader ended before bytes =
     (whole : ℕ) × (response : Response) × IsWhole reader.heads.for_head ended bytes whole response
     × ShowsResponse reader.heads reader.body response × (used ≡ whole - before)
-FeedAnswers (Err fault) reader ended before bytes = fault ≢ Memory → HasFault reader.heads.for_head ended bytes fault
+FeedAnswers (Err fault) reader ended before bytes =
+    fault ≢ Memory → HasFault reader.heads.for_head ended bytes fault × ShowsRefused reader.heads bytes
 
 -- what is answered where the peer ended behind all bytes that were fed
 abbrev pub EndAnswers : Result (Unit {0}) WireFault → ReaderView → List ℕ → Type 0
 EndAnswers (Ok done) reader bytes =
     (whole : ℕ) × (response : Response) × IsWhole reader.heads.for_head Bool.true bytes whole response
     × ShowsResponse reader.heads reader.body response
-EndAnswers (Err fault) reader bytes = fault ≢ Memory → HasFault reader.heads.for_head Bool.true bytes fault
+EndAnswers (Err fault) reader bytes =
+    fault ≢ Memory → HasFault reader.heads.for_head Bool.true bytes fault × ShowsRefused reader.heads bytes

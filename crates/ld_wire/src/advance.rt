@@ -1,7 +1,7 @@
 // A response, from its heads to its body.
 ghost use Rattle.std.specs.Prelude.{◌≡◌, ◌≢◌, ◌++◌, [], IfErr, IfOk, List, ℕ};
 ghost use Rattle.ld_wire.specs.Body.{BodyStands};
-ghost use Rattle.ld_wire.specs.Heads.{BehindHead, KeepsHeaders, HeadsView, InHead, heads_view};
+ghost use Rattle.ld_wire.specs.Heads.{BehindHead, KeepsHeaders, HeadsView, InHead, ShowsRefused, heads_view};
 ghost use Rattle.ld_wire.specs.Reader.{AdvancesTo, stage_of};
 ghost use Rattle.ld_wire.specs.Response.{Refuses};
 ghost use Rattle.ld_wire.specs.declared.framing.Follows.{Follows};
@@ -29,6 +29,8 @@ pub fn start(
         AdvancesTo step.stage step.used (heads_view heads.new) held.new.items body.new.items bytes piece.now) }
     ensures err { IfErr result (λ fault. fault ≢ WireFault.Memory → (bytes : List ℕ) →
         InHead (heads_view heads.old) bytes → Refuses heads.old.for_head (bytes ++ piece.now) fault) }
+    ensures shown { IfErr result (λ fault. fault ≢ WireFault.Memory → (bytes : List ℕ) →
+        InHead (heads_view heads.old) bytes → ShowsRefused (heads_view heads.new) (bytes ++ piece.now)) }
 {
     let step = heads.take_heads(piece)?;
     if step.follows == Follows::Head {

@@ -1,6 +1,8 @@
 // The laws of responses: whatever bytes come, what is whole and what is refused is settled by their front alone.
 ghost use Rattle.std.specs.Prelude.{◌≡◌, ◌++◌, ◌∷◌, Bool, List, [], ℕ, codes, replicate};
+ghost use Rattle.httparse.specs.Grammar.{ResponseHead};
 ghost use Rattle.ld_wire.specs.Head.{follows};
+ghost use Rattle.ld_wire.specs.Heads.{TellsOf};
 ghost use Rattle.ld_wire.specs.Response.{Begins, IsResponse, Refuses, Response};
 ghost use Rattle.ld_wire.specs.declared.fault.WireFault.{WireFault};
 ghost use Rattle.ld_wire.specs.declared.fault.WireFault.TheVariants.{BadCoding, BadHead, BadLength, BodyTooLong, TooManyHeaders, TooManyInterims};
@@ -17,7 +19,7 @@ pub fn one_response()
 {}
 
 /// Bytes are refused for one fault at most, and not where they begin with a whole response, or are one behind which
-/// the peer ended.
+/// the peer ended. They tell of one head at most.
 pub fn one_refusal()
     ensures one { (for_head : Bool) (bytes : List ℕ) (a b : WireFault) →
         Refuses for_head bytes a → Refuses for_head bytes b → a ≡ b }
@@ -25,14 +27,20 @@ pub fn one_refusal()
         Begins for_head bytes used response → Refuses for_head bytes fault → ⊥ }
     ensures ended { (for_head : Bool) (bytes : List ℕ) (response : Response) (fault : WireFault) →
         IsResponse for_head Bool.true bytes response → Refuses for_head bytes fault → ⊥ }
+    ensures head { (for_head : Bool) (bytes : List ℕ) (a b : ResponseHead) →
+        TellsOf for_head bytes a → TellsOf for_head bytes b → a ≡ b }
 {}
 
-/// More bytes change neither a whole response nor a refusal.
+/// More bytes change neither a whole response nor a refusal, nor which head refused bytes tell of.
 pub fn more_bytes()
     ensures whole { (for_head : Bool) (bytes more : List ℕ) (used : ℕ) (response : Response) →
         Begins for_head bytes used response → Begins for_head (bytes ++ more) used response }
     ensures refused { (for_head : Bool) (bytes more : List ℕ) (fault : WireFault) →
         Refuses for_head bytes fault → Refuses for_head (bytes ++ more) fault }
+    ensures head { (for_head : Bool) (bytes more : List ℕ) (head : ResponseHead) →
+        TellsOf for_head bytes head → TellsOf for_head (bytes ++ more) head }
+    ensures no_other { (for_head : Bool) (bytes more : List ℕ) (fault : WireFault) (head : ResponseHead) →
+        Refuses for_head bytes fault → TellsOf for_head (bytes ++ more) head → TellsOf for_head bytes head }
 {}
 
 /// Heads as examples: what follows each, or its fault.

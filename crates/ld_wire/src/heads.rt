@@ -4,7 +4,7 @@ ghost use Rattle.httparse.specs.Grammar.{ResponseHead, print_response};
 ghost use Rattle.httparse.specs.declared.spans.ResponseSpans.{ResponseSpans};
 ghost use Rattle.std.specs.Option.{option_copied};
 ghost use Rattle.ld_wire.specs.Head.{first_value, follows_head, is_told};
-ghost use Rattle.ld_wire.specs.Heads.{KeepsHeaders, HeadsStand, HeadsStep, HeadsTake, InHead, IsFound, heads_view};
+ghost use Rattle.ld_wire.specs.Heads.{KeepsHeaders, HeadsStand, HeadsStep, HeadsTake, InHead, IsFound, ShowsRefused, heads_view};
 ghost use Rattle.ld_wire.specs.Response.{AreInterims, Refuses, print_heads};
 
 use crate::fault::WireFault;
@@ -62,6 +62,8 @@ impl Heads {
             HeadsTake move.used move.follows (heads_view self.new) bytes piece.now) }
         ensures err { IfErr result (λ fault. fault ≢ WireFault.Memory → (bytes : List ℕ) →
             InHead (heads_view self.old) bytes → Refuses self.old.for_head (bytes ++ piece.now) fault) }
+        ensures shown { IfErr result (λ fault. fault ≢ WireFault.Memory → (bytes : List ℕ) →
+            InHead (heads_view self.old) bytes → ShowsRefused (heads_view self.new) (bytes ++ piece.now)) }
     {
         let mut used = 0;
         let mut follows = Follows::Head;
@@ -84,6 +86,8 @@ impl Heads {
             HeadsStep move.used move.follows (heads_view self.new) bytes piece.now) }
         ensures err { IfErr result (λ fault. fault ≢ WireFault.Memory → (bytes : List ℕ) →
             InHead (heads_view self.old) bytes → Refuses self.old.for_head (bytes ++ piece.now) fault) }
+        ensures shown { IfErr result (λ fault. fault ≢ WireFault.Memory → (bytes : List ℕ) →
+            InHead (heads_view self.old) bytes → ShowsRefused (heads_view self.new) (bytes ++ piece.now)) }
     {
         let step = take_head(&mut self.bytes, &mut self.room, piece)?;
         match step.found {
@@ -101,7 +105,8 @@ impl Heads {
         }
     }
 
-    // What follows the head that was found: the next one behind an interim one, else the status and the headers are kept.
+    // What follows the head that was found: the next one behind an interim one, else the status and the headers are kept,
+    // also those of a head at fault that is told of.
     fn settle(&mut self, found: &ResponseSpans) -> Result<Follows, WireFault>
         requires none { (self.old.headers ≡ 0) × (self.old.status ≡ 0) }
         requires found { (head : ResponseHead) × IsFound self.old.bytes.items self.old.room.items found.now head }
@@ -114,6 +119,10 @@ impl Heads {
         ensures err { IfErr result (λ fault. (head : ResponseHead) →
             IsFound self.old.bytes.items self.old.room.items found.now head →
             follows_head self.old.for_head self.old.interims head ≡ Err fault) }
+        ensures shown { IfErr result (λ fault. (before : List ResponseHead) (head : ResponseHead) →
+            AreInterims self.old.for_head 0 before → length before ≡ self.old.interims →
+            IsFound self.old.bytes.items self.old.room.items found.now head →
+            ShowsRefused (heads_view self.new) (print_heads before ++ print_response head)) }
     {
         let (spans, _) = self.room.split_at(found.headers);
         match follows(self.for_head, self.interims, found.code, &self.bytes, spans) {

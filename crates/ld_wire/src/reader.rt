@@ -115,14 +115,14 @@ impl ResponseReader {
         }
     }
 
-    /// The status of the final head, or 0 before that head is whole.
+    /// The status of the final head, refused or not, or of one with the status 101; 0 before that head is whole.
     pub fn status(&self) -> u16
         ensures { result ≡ self.now.heads.status }
     {
         self.heads.status
     }
 
-    /// The value of the first header of this name in the final head, letters' case aside, if there is one.
+    /// The value of the first header of this name in the head whose status is shown, letters' case aside, if there is one.
     pub fn header(&self, name: &[u8]) -> Option<&[u8]>
         ensures { option_copied result ≡ first_value name.now self.now.heads.headers }
     {

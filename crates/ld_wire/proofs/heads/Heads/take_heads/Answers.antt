@@ -1,11 +1,12 @@
 use Rattle.std.proofs.Common.{rules, ◌≡◌, ◌≢◌, ◌≤◌, ◌+◌, ◌-◌, ◌++◌, ℕ, List, length, take, drop, arith, ◌∙◌}
-use Rattle.ld_wire.specs.Heads.{InHead, heads_view}
+use Rattle.ld_wire.specs.Heads.{InHead, ShowsRefused, heads_view}
 use Rattle.ld_wire.specs.Response.{Refuses}
 use Rattle.ld_wire.specs.declared.fault.WireFault.{WireFault}
 use Rattle.ld_wire.specs.declared.fault.WireFault.TheVariants.{Memory}
 use Rattle.ld_wire.specs.declared.framing.Follows.TheVariants.{Head}
 use Rattle.ld_wire.proofs.HandedLemmas.{handed}
 use Rattle.ld_wire.proofs.HeadsLemmas.{at_head, heads_behind, heads_refused_behind}
+use Rattle.ld_wire.proofs.ShownLemmas.{shown_behind}
 use Rattle.ld_wire.proofs.heads.Heads.take_heads.Goals as goal
 
 pub take_one-requires-clause-stands : goal.take_one-requires-clause-stands
@@ -31,6 +32,22 @@ returns-in_err-step-clause-err c =
     (λ other bytes stands.
     heads_refused_behind c.loop-used.self.for_head self.for_head bytes piece rest used c.in_err-step.field-0.0 same c.loop-used.invariant.same
     (c.in_err-step.ensures.err other (bytes ++ take used piece)
+    (at_head c.loop-used.follows (heads_view c.loop-used.self) (bytes ++ take used piece) is (c.loop-used.invariant.stands bytes stands))))
+
+pub returns-in_err-step-clause-shown : goal.returns-in_err-step-clause-shown
+returns-in_err-step-clause-shown c =
+    let self = c.args.self.now in
+    let piece = c.args.piece.now in
+    let used = c.loop-used.used in
+    let rest = c.split_at.result.1.now in
+    let same : rest ≡ drop used piece = search rules in
+    let is : c.loop-used.follows ≡ Head = search rules in
+    let new = heads_view c.take_one.new.self in
+    let P : WireFault → Type 0 = λ fault. fault ≢ Memory → (bytes : List ℕ) → InHead (heads_view self) bytes → ShowsRefused new (bytes ++ piece) in
+    handed P c.from_residual.result c.in_err-step.field-0.0 c.from_residual.ensures
+    (λ other bytes stands.
+    shown_behind new bytes piece rest used same
+    (c.in_err-step.ensures.shown other (bytes ++ take used piece)
     (at_head c.loop-used.follows (heads_view c.loop-used.self) (bytes ++ take used piece) is (c.loop-used.invariant.stands bytes stands))))
 
 pub overflow_add-used : goal.overflow_add-used

@@ -2,13 +2,14 @@ use Rattle.std.proofs.Common.{◌≡◌, ◌≢◌, ◌<◌, ◌≤◌, ◌++◌
 use Rattle.std.specs.Prelude.{IfNone, IfSome}
 use Rattle.httparse.specs.declared.spans.ResponseSpans.{ResponseSpans}
 use Rattle.ld_wire.specs.Found.{IsOpenHead}
-use Rattle.ld_wire.specs.Heads.{HeadEnds, InHead, IsFound, heads_view}
+use Rattle.ld_wire.specs.Heads.{HeadEnds, InHead, IsFound, ShowsRefused, heads_view}
 use Rattle.ld_wire.specs.Response.{Refuses}
 use Rattle.ld_wire.specs.declared.fault.WireFault.{WireFault}
 use Rattle.ld_wire.specs.declared.fault.WireFault.TheVariants.{Memory}
 use Rattle.ld_wire.specs.declared.heads.Heads.{Heads}
 use Rattle.ld_wire.proofs.HandedLemmas.{handed}
-use Rattle.ld_wire.proofs.HeadsLemmas.{form_refused, head_goes_on, head_is_refused, none_kept, room_is}
+use Rattle.ld_wire.proofs.HeadsLemmas.{form_refused, head_goes_on, head_is_refused, no_headers, none_kept, room_is}
+use Rattle.ld_wire.proofs.ShownLemmas.{form_shown, settled_shown}
 use Rattle.ld_wire.proofs.heads.Heads.take_one.Goals as goal
 
 pub returns-in_err-step-clause-room : goal.returns-in_err-step-clause-room
@@ -33,6 +34,24 @@ returns-in_err-step-clause-err c =
     handed P c.from_residual.result c.in_err-step.field-0.0 c.from_residual.ensures
     (λ other bytes is. form_refused (heads_view self) bytes piece c.in_err-step.field-0.0 (c.in_err-step.ensures.refused other) is)
 
+pub returns-in_err-step-clause-shown : goal.returns-in_err-step-clause-shown
+returns-in_err-step-clause-shown c =
+    let self = c.args.self.now in
+    let piece = c.args.piece.now in
+    let new : Heads = record {
+      for_head = self.for_head;
+      interims = self.interims;
+      bytes = c.take_head.new.head;
+      room = c.take_head.new.room;
+      headers = self.headers;
+      status = self.status;
+    } in
+    let P : WireFault → Type 0 = λ fault. fault ≢ Memory → (bytes : List ℕ) → InHead (heads_view self) bytes
+    → ShowsRefused (heads_view new) (bytes ++ piece) in
+    handed P c.from_residual.result c.in_err-step.field-0.0 c.from_residual.ensures
+    (λ other bytes is. form_shown (heads_view self) (heads_view new) bytes piece c.in_err-step.field-0.0 refl is.status
+    (no_headers new.bytes.items new.headers new.room.items (none_kept self bytes c.requires.room is)) (c.in_err-step.ensures.refused other) is)
+
 pub settle-requires-clause-none : goal.settle-requires-clause-none
 settle-requires-clause-none c =
     (none_kept c.args.self.now c.requires.stands.0 c.requires.room c.requires.stands.1, c.requires.stands.1.status)
@@ -56,6 +75,27 @@ returns-in-Err-clause-err c other bytes is =
     } in
     head_is_refused (heads_view self) new bytes piece c.in_ok-step.step.used ends.head c.in-Err.fault ends.form ends.print ends.new_is
     (c.in-Err.ensures.err ends.head at) is
+
+pub returns-in-Err-clause-shown : goal.returns-in-Err-clause-shown
+returns-in-Err-clause-shown c other bytes is =
+    let self = c.args.self.now in
+    let piece = c.args.piece.now in
+    let new = c.take_head.new.head.items in
+    let room = c.take_head.new.room.items in
+    let found = c.in-Some.found in
+    let P : Option ResponseSpans → Type 0 = λ o. IfSome o (HeadEnds self.bytes.items new room piece c.in_ok-step.step.used) in
+    let ends : HeadEnds self.bytes.items new room piece c.in_ok-step.step.used found = subst P c.in-Some.is c.in_ok-step.ensures.whole in
+    let at : IsFound new room found ends.head = record {
+      form = ends.form;
+      print = ends.print;
+      code = ends.code;
+      count = ends.count;
+      within = ends.within;
+      headers = ends.headers;
+    } in
+    settled_shown (heads_view self) (heads_view c.settle.new.self) new bytes piece c.in_ok-step.step.used ends.head c.in-Err.fault c.settle.ensures.same
+    ends.form ends.print ends.new_is is (c.in-Err.ensures.err ends.head at)
+    (c.in-Err.ensures.shown is.before ends.head is.form is.count at)
 
 pub returns-in-None-clause-room : goal.returns-in-None-clause-room
 returns-in-None-clause-room c =

@@ -1,12 +1,12 @@
 use Rattle.std.proofs.Common.{rules, ◌≡◌, ◌≢◌, ℕ, true, subst}
-use Rattle.ld_wire.specs.Heads.{heads_view}
+use Rattle.ld_wire.specs.Heads.{ShowsRefused, heads_view}
 use Rattle.ld_wire.specs.Reader.{FedAt, HasFault, ShowsResponse, IsWhole}
 use Rattle.ld_wire.specs.ReaderView.{ReaderView}
 use Rattle.ld_wire.specs.Response.{Response}
 use Rattle.ld_wire.specs.declared.body_place.BodyPlace.TheVariants as places
 use Rattle.ld_wire.specs.declared.stage.Stage.{Stage}
 use Rattle.ld_wire.specs.declared.stage.Stage.TheVariants as stages
-use Rattle.ld_wire.proofs.ReaderLemmas.{cut_in_body, cut_in_head, ended_body, fault_end, fed_inside, fed_outside, whole_end}
+use Rattle.ld_wire.proofs.ReaderLemmas.{cut_in_body, cut_in_head, ended_body, refused_end, fed_inside, fed_outside, whole_end}
 use Rattle.ld_wire.proofs.reader.ResponseReader.end.Goals as goal
 
 pub invariant_of-self : goal.invariant_of-self
@@ -56,7 +56,7 @@ returns-in-Refused-clause-fed c ended bytes fed =
     let at = stages.Refused c.in-Refused.fault in
     let is = fed_inside view i.heads i.stage at i.held.items i.body.items ended bytes c.self.view_is c.in-Refused.is fed in
     fed_outside view i.heads i.stage at i.held.items i.body.items true bytes c.self.view_is c.in-Refused.is
-    (λ other. fault_end i.heads.for_head ended bytes c.in-Refused.fault (is other))
+    (λ other. refused_end (heads_view i.heads) ended bytes c.in-Refused.fault (is other))
 
 pub returns-in-Refused-clause-answer : goal.returns-in-Refused-clause-answer
 returns-in-Refused-clause-answer c ended bytes fed other =
@@ -64,8 +64,8 @@ returns-in-Refused-clause-answer c ended bytes fed other =
     let i = c.self.inside in
     let at = stages.Refused c.in-Refused.fault in
     let is = fed_inside view i.heads i.stage at i.held.items i.body.items ended bytes c.self.view_is c.in-Refused.is fed in
-    let P : ReaderView → Type 0 = λ v. HasFault v.heads.for_head true bytes c.in-Refused.fault in
-    subst P c.self.view_is (fault_end i.heads.for_head ended bytes c.in-Refused.fault (is other))
+    let P : ReaderView → Type 0 = λ v. HasFault v.heads.for_head true bytes c.in-Refused.fault × ShowsRefused v.heads bytes in
+    subst P c.self.view_is (refused_end (heads_view i.heads) ended bytes c.in-Refused.fault (is other))
 
 pub returns-in-Whole-clause-fed : goal.returns-in-Whole-clause-fed
 returns-in-Whole-clause-fed c ended bytes fed =
