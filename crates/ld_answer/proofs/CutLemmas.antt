@@ -15,14 +15,14 @@ use Rattle.ld_segment.proofs.ValueLemmas.{one_list_of_points}
 use Rattle.ld_segment.proofs.WeightsLemmas.{weights_sum, weights_unique}
 use Rattle.ld_segment.proofs.WeightsPeriodLemmas.{period_positive, period_unique}
 use Rattle.ld_stripe.specs.StripeFault as stripe
-use Rattle.ld_stripe.specs.Striping.{IsStripingOf}
+use Rattle.ld_stripe.specs.Striping.{IsStripingOf, owned_indices}
 use Rattle.ld_stripe.specs.declared.fault.StripeFault.{StripeFault}
 use Rattle.ld_stripe.specs.declared.fault.StripeFault.TheVariants as stripes
 use Rattle.std.proofs.lemmas.Bool.Decides.{nat_tests}
 use Rattle.std.proofs.lemmas.List.Quantifiers.{position-Some}
 use Rattle.ld_stripe.proofs.LowestTermsLemmas.{period_at_most, sum_positive}
 use Rattle.ld_answer.specs.Cut.{sequence_line, segment_word, AreGiven, IsCut, IsCutRefusal, IsCutText, IsGivenRefusal, IsPartRefusal, IsPartText, RefusesCut, RefusesPart}
-use Rattle.ld_answer.specs.Indices.{numbers_line, owned_below}
+use Rattle.ld_answer.specs.Indices.{numbers_line}
 use Rattle.ld_answer.specs.declared.refusal.Refusal.{Refusal}
 use Rattle.ld_answer.specs.declared.refusal.Refusal.TheVariants.{Words, Stripe, NoSuchPosition, Segment, NotInSequence, Read, TooLong, Test, Plan, Memory}
 use Rattle.ld_answer.proofs.StripeLemmas.{same_owners}
@@ -157,8 +157,8 @@ one_part_text count from to points a b whole sequence ha hb =
     same_owners hb.weights ha.striping hb.striping (omega arith)
     (subst (λ ws. IsStripingOf ws ha.striping) weights ha.striped) hb.striped in
     ha.text_is
-    ∙ ap (λ os. sequence_line points ++ numbers_line (owned_below os ha.position count)) owners
-    ∙ ap (λ p. sequence_line points ++ numbers_line (owned_below hb.striping.owners p count)) position
+    ∙ ap (λ os. sequence_line points ++ numbers_line (owned_indices os ha.position count)) owners
+    ∙ ap (λ p. sequence_line points ++ numbers_line (owned_indices hb.striping.owners p count)) position
     ∙ sym hb.text_is
 
 pub one_cut_text : (count : ℕ) (segment sequence : Option (List ℕ)) (a b : List ℕ) → IsCutText count segment sequence a →

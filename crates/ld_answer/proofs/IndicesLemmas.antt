@@ -6,8 +6,8 @@ use Rattle.std.proofs.lemmas.List.{append_assoc, append-nil, map-append}
 use Rattle.std.proofs.lemmas.List.Elements.{filter-append}
 use Rattle.std.proofs.lemmas.Bool.{ne_eqb}
 use Rattle.ld_stripe.proofs.StripingLaws.{range_more}
-use Rattle.ld_stripe.specs.Striping.{owner_at}
-use Rattle.ld_answer.specs.Indices.{item, owned_below, spaced}
+use Rattle.ld_stripe.specs.Striping.{owned_indices, owner_at}
+use Rattle.ld_answer.specs.Indices.{item, spaced}
 
 -- whether a list has an element
 abbrev pub is_some_of : List ℕ → Bool
@@ -47,18 +47,18 @@ line_more before numbers text follows n so_far = record {
 -- an index more: it is kept where the position owns it
 owned-more : (owners : List ℕ) (position count : ℕ) (is_owner : Bool) →
     nat_eq (owner_at owners count) position ≡ is_owner →
-    owned_below owners position (count + 1) ≡ owned_below owners position count ++ cond is_owner (count ∷ []) []
+    owned_indices owners position (count + 1) ≡ owned_indices owners position count ++ cond is_owner (count ∷ []) []
 owned-more owners position count is_owner is =
     let test = λ (x : ℕ). nat_eq (owner_at owners x) position in
     ap (λ n. filter test (range_with_len 0 n)) (add-one count)
     ∙ ap (λ xs. filter test xs) (range_more 0 count ∙ ap (λ x. range_with_len 0 count ++ x ∷ []) (zero-add count))
     ∙ filter-append test (range_with_len 0 count) (count ∷ [])
-    ∙ ap (λ b. owned_below owners position count ++ cond b (count ∷ []) []) is
+    ∙ ap (λ b. owned_indices owners position count ++ cond b (count ∷ []) []) is
 
 pub owned-yes : (owners : List ℕ) (position count : ℕ) → owner_at owners count ≡ position →
-    owned_below owners position (count + 1) ≡ owned_below owners position count ++ count ∷ []
+    owned_indices owners position (count + 1) ≡ owned_indices owners position count ++ count ∷ []
 owned-yes owners position count is = owned-more owners position count true (eq-eqb _ _ is)
 
 pub owned-no : (owners : List ℕ) (position count : ℕ) → (owner_at owners count ≡ position → ⊥) →
-    owned_below owners position (count + 1) ≡ owned_below owners position count
+    owned_indices owners position (count + 1) ≡ owned_indices owners position count
 owned-no owners position count other = owned-more owners position count false (ne_eqb _ _ other) ∙ append-nil _

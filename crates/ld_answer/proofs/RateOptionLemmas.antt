@@ -5,7 +5,7 @@ use Rattle.std.specs.List.{AllZip}
 use Rattle.ld_json.specs.Node.{NodeView}
 use Rattle.ld_options.specs.ConstantArrivals.{AreArrivals, rates}
 use Rattle.ld_options.specs.Document.{AreOptionsOf, root_of}
-use Rattle.ld_options.specs.Executors.{IsExecutor}
+use Rattle.ld_options.specs.Executors.{IsExecutor, executor_kind}
 use Rattle.ld_options.specs.Fields.{given, number, ranged}
 use Rattle.ld_options.specs.Scenarios.{IsScenarioOf}
 use Rattle.ld_options.specs.Times.{IsSpan, IsTime, span_text}
@@ -82,19 +82,21 @@ module _ (rate unit duration pre max : ℕ) (unit_small : unit < 2 ^ 64) (durati
       let of_max = max_is p m are.max_is in
       cc
 
-  -- the one kind of executor has no name here, so this takes what it says of each executor
-  executor_is : (executor : Executor) → ((r u d p m : ℕ) → executor ≡ executors.ConstantArrivals r u d p m → AreArrivals node r u d p m) →
+  -- an executor of the same kind, of which the fields say the numbers
+  executor_is : (executor : Executor) → executor_kind executor ≡ executor_kind (executors.ConstantArrivals rate unit duration pre max) → IsExecutor node executor →
       executor ≡ executors.ConstantArrivals rate unit duration pre max
-  executor_is (executors.ConstantArrivals r u d p m) said = arrivals_are r u d p m (said r u d p m refl)
+  executor_is (executors.SharedIterations v i m) kind are = absurd cc
+  executor_is (executors.PerVuIterations v i m) kind are = absurd cc
+  executor_is (executors.ConstantVus v d) kind are = absurd cc
+  executor_is (executors.ConstantArrivals r u d p m) kind are = arrivals_are r u d p m are
 
   scenario_is : (s : Scenario) → IsScenarioOf names (codes "main", node) s → s ≡ rate_scenario rate unit duration pre max
   scenario_is s is =
       let begin = time_is _ _ node _ (codes "0s") 0 s.begin refl (begin_span s.begin) is.begin_is in
       let grace = time_is _ _ node _ (codes "30s") 30000000000 s.grace refl (grace_span s.grace) is.grace_is in
       let script = first_is s.script is.script_is.text is.script_is.found in
-      let kind = ok_same _ is.kind is.kind_is in
-      let executor = executor_is s.executor (λ r u d p m same.
-      subst (λ k. IsExecutor k node (executors.ConstantArrivals r u d p m)) (sym kind) (subst (λ e. IsExecutor is.kind node e) same is.executor_is)) in
+      let kind = ok_same (executor_kind s.executor) (executor_kind (executors.ConstantArrivals rate unit duration pre max)) (sym is.kind_is) in
+      let executor = executor_is s.executor kind is.executor_is in
       λ i. record { name = is.name_is i; begin = begin i; grace = grace i; script = script i; executor = executor i }
 
   alone : (scenarios : List Scenario) → AllZip (IsScenarioOf names) ((codes "main", node) ∷ []) scenarios → scenarios ≡ rate_scenario rate unit duration pre max ∷ []

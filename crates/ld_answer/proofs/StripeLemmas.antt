@@ -5,11 +5,11 @@ use Rattle.std.proofs.Math.Decide.{dec_lt}
 use Rattle.std.proofs.lemmas.List.Sums.{sum_by-cons}
 use Rattle.std.specs.Prelude.{Some, None, sum}
 use Rattle.ld_stripe.specs.StripeFault as stripe
-use Rattle.ld_stripe.specs.Striping.{Striping, IsStriping, IsStripingOf}
+use Rattle.ld_stripe.specs.Striping.{IsStriping, IsStripingOf, Striping, owned_indices}
 use Rattle.ld_stripe.specs.declared.fault.StripeFault.TheVariants as fault
 use Rattle.ld_stripe.proofs.LowestTermsLemmas.{one_form}
 use Rattle.ld_stripe.proofs.StripingLaws.{striping_unique}
-use Rattle.ld_answer.specs.Indices.{numbers_line, owned_below}
+use Rattle.ld_answer.specs.Indices.{numbers_line}
 use Rattle.ld_answer.specs.Stripe.{IsAccepted, IsWeightsRefusal, IsWeightsText}
 use Rattle.ld_answer.specs.declared.refusal.Refusal.{Refusal}
 use Rattle.ld_answer.specs.declared.refusal.Refusal.TheVariants.{Words, Stripe, NoSuchPosition, Segment, NotInSequence, Read, TooLong, Test, Plan, Memory}
@@ -63,5 +63,5 @@ one_weights_text weights position count a b ha hb =
     let inside = ha.inside in
     let some = sum_above_zero weights (omega arith) ha.accepted in
     ha.text_is
-    ∙ ap (λ os. numbers_line (owned_below os position count)) (same_owners weights ha.striping hb.striping some ha.striped hb.striped)
+    ∙ ap (λ os. numbers_line (owned_indices os position count)) (same_owners weights ha.striping hb.striping some ha.striped hb.striped)
     ∙ sym hb.text_is

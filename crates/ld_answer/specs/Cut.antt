@@ -8,8 +8,8 @@ use Rattle.ld_segment.specs.Segments.{filled, given_points, segments_of, IsSeque
 use Rattle.ld_segment.specs.Values.{segment_values, sequence_values, ArePoints}
 use Rattle.ld_segment.specs.Weights.{greatest_period, HasWeights, IsPeriodRefusal}
 use Rattle.ld_segment.specs.declared.fault.SegmentFault.{SegmentFault}
-use Rattle.ld_stripe.specs.Striping.{Striping, IsStripingOf}
-use Rattle.ld_answer.specs.Indices.{numbers_line, owned_below}
+use Rattle.ld_stripe.specs.Striping.{IsStripingOf, Striping, owned_indices}
+use Rattle.ld_answer.specs.Indices.{numbers_line}
 use Rattle.ld_answer.specs.declared.refusal.Refusal.{Refusal}
 use Rattle.ld_answer.specs.declared.refusal.Refusal.TheVariants.{Words, Stripe, NoSuchPosition, Segment, NotInSequence, Read, TooLong, Test, Plan, Memory}
 
@@ -65,7 +65,7 @@ pub record IsPartText (count : ℕ) (from to : Frac) (points : List Frac) (text 
   pub small : period ≤ greatest_period
   pub striping : Striping
   pub striped : IsStripingOf weights striping
-  pub text_is : text ≡ sequence_line points ++ numbers_line (owned_below striping.owners position count)
+  pub text_is : text ≡ sequence_line points ++ numbers_line (owned_indices striping.owners position count)
 
 -- it is refused so: because the sequence has no segment that is equal, or else for its period
 abbrev pub IsPartRefusal : Frac → Frac → List Frac → Refusal → Type 0

@@ -1,11 +1,6 @@
 -- The text of the indices that a position owns.
-use Rattle.std.specs.Prelude.{◌==◌, ◌∷◌, ◌++◌, [], ℕ, Bool, true, false, List, filter, map, decimal}
-use Rattle.std.specs.List.{join_with_byte, range_with_len}
-use Rattle.ld_stripe.specs.Striping.{owner_at}
-
--- the indices below count that the position owns
-abbrev pub owned_below : List ℕ → ℕ → ℕ → List ℕ
-owned_below owners position count = filter (λ x. owner_at owners x == position) (range_with_len 0 count)
+use Rattle.std.specs.Prelude.{◌∷◌, ◌++◌, [], ℕ, Bool, true, false, List, map, decimal}
+use Rattle.std.specs.List.{join_with_byte}
 
 -- the numbers, joined by one space
 abbrev pub spaced : List ℕ → List ℕ

@@ -1,9 +1,9 @@
 -- What `stripe` prints, and why it is refused: in its first form, over weights.
 use Rattle.std.specs.Prelude.{◌≡◌, ◌<◌, ◌≤◌, ℕ, List, length}
-use Rattle.ld_stripe.specs.Striping.{Striping, IsStripingOf}
+use Rattle.ld_stripe.specs.Striping.{IsStripingOf, Striping, owned_indices}
 use Rattle.ld_stripe.specs.StripeFault as stripe
 use Rattle.ld_stripe.specs.declared.fault.StripeFault.{StripeFault}
-use Rattle.ld_answer.specs.Indices.{numbers_line, owned_below}
+use Rattle.ld_answer.specs.Indices.{numbers_line}
 use Rattle.ld_answer.specs.declared.refusal.Refusal.{Refusal}
 use Rattle.ld_answer.specs.declared.refusal.Refusal.TheVariants.{Words, Stripe, NoSuchPosition, Segment, NotInSequence, Read, TooLong, Test, Plan, Memory}
 
@@ -31,4 +31,4 @@ pub record IsWeightsText (weights : List ℕ) (position count : ℕ) (text : Lis
   pub inside : position < length weights
   pub striping : Striping
   pub striped : IsStripingOf weights striping
-  pub text_is : text ≡ numbers_line (owned_below striping.owners position count)
+  pub text_is : text ≡ numbers_line (owned_indices striping.owners position count)

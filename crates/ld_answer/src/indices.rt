@@ -1,6 +1,7 @@
 // The text of the indices that a position owns.
 ghost use Rattle.std.specs.Prelude.{◌≡◌, ◌++◌, IfOk};
-ghost use Rattle.ld_answer.specs.Indices.{item, numbers_line, owned_below};
+ghost use Rattle.ld_answer.specs.Indices.{item, numbers_line};
+ghost use Rattle.ld_stripe.specs.Striping.{owned_indices};
 
 use ld_base::{BaseFault, put_number};
 use ld_stripe::Stripe;
@@ -12,7 +13,7 @@ pub fn put_indices(
     position: usize,
     count: u32,
 ) -> Result<(), BaseFault>
-    ensures { IfOk result (λ _. text.new.items ≡ text.old.items ++ numbers_line (owned_below stripe.now.owners position count)) }
+    ensures { IfOk result (λ _. text.new.items ≡ text.old.items ++ numbers_line (owned_indices stripe.now.owners position count)) }
 {
     let mut follows = false;
     for index in 0..count {

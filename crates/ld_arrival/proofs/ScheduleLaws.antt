@@ -57,7 +57,7 @@ in_schedule timetable limits k moment =
     )
 
 -- what a test keeps of a list is what is in the list and passes
-in_filter : {X : Type 0} (p : X → Bool) (xs : List X) (x : X) → Contains (filter p xs) x ↔ (Contains xs x × (p x ≡ true))
+pub in_filter : {X : Type 0} (p : X → Bool) (xs : List X) (x : X) → Contains (filter p xs) x ↔ (Contains xs x × (p x ≡ true))
 in_filter p xs x = (
   λ has. (
     All-contains (Contains xs) (filter p xs) x (All-filter p (Contains xs) xs (All-contains_itself xs)) has,
@@ -154,14 +154,18 @@ parts_whole owner p (suc n) xs owned =
     (same ∙ sym (flat_map-cons (λ j. filter (λ x. nat_eq (owner x) j) xs) p (range_with_len (p + 1) n)))
     (IsPermutation-trans xs (own ++ rest) (own ++ parts owner (p + 1) n rest) split joined)
 
--- where each index has one of n owners, the owned pairs of all are the whole
+-- where each element has one of n owners, the elements of all owners are the whole
+pub each_owned_once : {X : Type 0} (owner : X → ℕ) (n : ℕ) → ((x : X) → owner x < n) → (xs : List X) →
+    IsPermutation xs (flat_map (λ j. filter (λ x. nat_eq (owner x) j) xs) (range_with_len 0 n))
+each_owned_once owner n below xs =
+    parts_whole owner 0 n xs
+    (All-weaker (Contains xs) (λ x. (0 ≤ owner x) × (owner x < 0 + n)) (λ x _. let b = below x in (omega arith, omega arith))
+    xs (All-contains_itself xs))
+
+-- and so are the owned pairs of all, where each index has one of n owners
 pub owned_whole : (owners : List ℕ) (n : ℕ) → ((x : ℕ) → owner_at owners x < n) → (pairs : List (ℕ × ℕ)) →
     IsPermutation pairs (flat_map (λ j. owned_pairs owners j pairs) (range_with_len 0 n))
-owned_whole owners n below pairs =
-    parts_whole (λ (pair : ℕ × ℕ). owner_at owners pair.0) 0 n pairs
-    (All-weaker (Contains pairs) (λ (pair : ℕ × ℕ). (0 ≤ owner_at owners pair.0) × (owner_at owners pair.0 < 0 + n))
-    (λ pair _. let b = below pair.0 in (omega arith, omega arith))
-    pairs (All-contains_itself pairs))
+owned_whole owners n below pairs = each_owned_once (λ (pair : ℕ × ℕ). owner_at owners pair.0) n (λ pair. below pair.0) pairs
 
 sum_over_map : {X : Type 0} (g : X → ℕ) (f : ℕ → X) (ks : List ℕ) → sum_by g (map f ks) ≡ sum_by (λ k. g (f k)) ks
 sum_over_map g f [] = refl

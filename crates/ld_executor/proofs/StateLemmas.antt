@@ -1,11 +1,13 @@
 -- What a state of one executor shows.
-use Rattle.std.proofs.Common.{◌≡◌, ◌∙◌, ℕ, Bool, Option, Some, IsTrue, ap, refl, slice_get, subst, sym}
+use Rattle.std.proofs.Common.{◌≡◌, ◌∙◌, ℕ, Option, Some, IsTrue, ap, refl, slice_get, subst, sym}
 use Rattle.std.specs.Prelude.{IsSomeAnd}
 use Rattle.ld_base.specs.declared.act.Act.{Act}
 use Rattle.ld_machine.specs.Plan.{Executor, Part, Plan, owned_items}
 use Rattle.ld_machine.specs.Scenario.{Scenario}
 use Rattle.ld_machine.specs.Settled.{is_distinct}
 use Rattle.ld_machine.specs.State.{opening_share}
+use Rattle.ld_iters.specs.Shows as iterations
+use Rattle.ld_iters.specs.declared.iters_state.ItersState.{ItersState}
 use Rattle.ld_plan.specs.OwnedPart.{executor_of}
 use Rattle.ld_plan.specs.Row.{row_of}
 use Rattle.ld_plan.specs.declared.owned_part.OwnedPart.{OwnedPart}
@@ -16,18 +18,17 @@ use Rattle.ld_rates.specs.RatesView.{RatesView}
 use Rattle.ld_rates.specs.Shows as rates
 use Rattle.ld_rates.specs.declared.rates_part.RatesPart.{RatesPart}
 use Rattle.ld_rates.proofs.TellLemmas.{told_applies}
-use Rattle.ld_executor.specs.Shows.{MayTell, Shows, ShowsOpening, closed_of}
+use Rattle.ld_executor.specs.Shows.{MayTell, Shows, ShowsOpening}
 use Rattle.ld_executor.specs.declared.executor_state.ExecutorState.{ExecutorState}
-use Rattle.ld_executor.specs.declared.executor_state.ExecutorState.TheVariants.{Rates}
+use Rattle.ld_executor.specs.declared.executor_state.ExecutorState.TheVariants.{Iters, Rates}
 
 -- a scenario at an arrival rate
 pub at_rate : (state : ExecutorState) (rate : RatesView) (s : Scenario) → state ≡ Rates rate → Shows state s → rates.Shows rate s
 at_rate state rate s is shown = subst (λ (e : ExecutorState). Shows e s) is shown
 
--- it is closed where its executor's state, which shows the same scenarios, is
-pub closed_at_rate : (state : ExecutorState) (rate : RatesView) (closed : Bool) → ((s : Scenario) → rates.Shows rate s → closed ≡ s.share.closed) → state ≡ Rates rate →
-    closed ≡ rate.closed → closed ≡ closed_of state
-closed_at_rate state rate closed shown is kept = kept ∙ sym (ap closed_of is)
+-- a scenario whose users begin one iteration after another
+pub at_iterations : (state : ExecutorState) (iters : ItersState) (s : Scenario) → state ≡ Iters iters → Shows state s → iterations.Shows iters s
+at_iterations state iters s is shown = subst (λ (e : ExecutorState). Shows e s) is shown
 
 -- what a state may be told, its executor's state may be
 pub may_told : (state : ExecutorState) (rate : RatesView) (act : Act) → state ≡ Rates rate → MayTell state act → MayApply rate act

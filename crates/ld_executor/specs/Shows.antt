@@ -6,17 +6,20 @@ use Rattle.ld_machine.specs.Scenario.{Scenario}
 use Rattle.ld_machine.specs.ShareEffect.{share_after}
 use Rattle.ld_machine.specs.State.{Controls, opening_share}
 use Rattle.ld_machine.specs.Told.{MayBeTold}
+use Rattle.ld_iters.specs.Shows as iters
 use Rattle.ld_rates.specs.Shows as rates
 use Rattle.ld_executor.specs.declared.executor_state.ExecutorState.{ExecutorState}
-use Rattle.ld_executor.specs.declared.executor_state.ExecutorState.TheVariants.{Rates}
+use Rattle.ld_executor.specs.declared.executor_state.ExecutorState.TheVariants.{Iters, Rates}
 
 -- the state shows the scenario
 abbrev pub Shows : ExecutorState → Scenario → Type 0
+Shows (Iters state) s = iters.Shows state s
 Shows (Rates state) s = rates.Shows state s
 
 -- whether the scenario is closed, as the state keeps it
 abbrev pub closed_of : ExecutorState → Bool
-closed_of (Rates state) = state.closed
+closed_of (Iters state) = iters.closed_of state
+closed_of (Rates state) = state.course.closed
 
 -- the act may be told: the state shows some scenario that may be told of it
 abbrev pub MayTell : ExecutorState → Act → Type 0

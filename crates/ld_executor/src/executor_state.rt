@@ -7,12 +7,15 @@ ghost use Rattle.ld_machine.specs.Wait.{scenario_moments};
 ghost use Rattle.ld_machine.specs.Wishes.{WishesFirst, has_arrivals};
 
 use ld_base::{Act, Wish};
+use ld_iters::ItersState;
 use ld_rates::RatesState;
 
 /// One scenario as it stands, by its executor. Each call says what it answers of the machine's scenario that the state
 /// shows. Readings and moments are in nanoseconds from the run's start.
 #[derive(Drop)]
 pub enum ExecutorState {
+    /// Its users begin one iteration after another.
+    Iters(ItersState),
     /// At an arrival rate.
     Rates(RatesState),
 }
@@ -24,6 +27,7 @@ impl ExecutorState {
         ensures { (s : Scenario) → Shows self.now s → WishesFirst s reading free prefer result }
     {
         match self {
+            ExecutorState::Iters(state) => state.next_act(reading, free, prefer),
             ExecutorState::Rates(state) => state.next_act(reading, free, prefer),
         }
     }
@@ -33,6 +37,7 @@ impl ExecutorState {
         ensures { (s : Scenario) → Shows self.now s → result ≡ has_arrivals s.part.executor }
     {
         match self {
+            ExecutorState::Iters(_) => false,
             ExecutorState::Rates(_) => true,
         }
     }
@@ -44,6 +49,7 @@ impl ExecutorState {
         ensures { Follows self.old self.new act.now reading }
     {
         match self {
+            ExecutorState::Iters(state) => state.apply(act, reading),
             ExecutorState::Rates(state) => state.apply(act, reading),
         }
     }
@@ -53,6 +59,7 @@ impl ExecutorState {
         ensures { (s : Scenario) → Shows self.now s → result ≡ least_above reading (scenario_moments s) }
     {
         match self {
+            ExecutorState::Iters(state) => state.candidate(reading),
             ExecutorState::Rates(state) => state.candidate(reading),
         }
     }
@@ -62,6 +69,7 @@ impl ExecutorState {
         ensures { (s : Scenario) → Shows self.now s → result ≡ may_stop s reading }
     {
         match self {
+            ExecutorState::Iters(state) => state.may_stop(reading),
             ExecutorState::Rates(state) => state.may_stop(reading),
         }
     }
@@ -71,6 +79,7 @@ impl ExecutorState {
         ensures { (s : Scenario) → Shows self.now s → result ≡ level_number s.share.level }
     {
         match self {
+            ExecutorState::Iters(state) => state.level(),
             ExecutorState::Rates(state) => state.level(),
         }
     }
@@ -81,6 +90,7 @@ impl ExecutorState {
         ensures shown { (s : Scenario) → Shows self.now s → result ≡ s.share.closed }
     {
         match self {
+            ExecutorState::Iters(state) => state.is_closed(),
             ExecutorState::Rates(state) => state.is_closed(),
         }
     }
@@ -90,6 +100,7 @@ impl ExecutorState {
         ensures { (s : Scenario) → Shows self.now s → result ≡ least_open_item s }
     {
         match self {
+            ExecutorState::Iters(state) => state.open_item(),
             ExecutorState::Rates(state) => state.open_item(),
         }
     }

@@ -1,6 +1,7 @@
 ghost use Rattle.std.specs.Prelude.{◌≡◌};
 ghost use Rattle.ld_executor.specs.declared.fault.ExecutorFault.TheVariants.{Memory};
 
+use ld_iters::ExecFault as ItersFault;
 use ld_plan::PlanFault;
 use ld_rates::ExecFault;
 use thiserror::Error;
@@ -25,6 +26,14 @@ impl From<ExecFault> for ExecutorFault {
     ghost from_gives = { λ _ fault. fault ≡ Memory };
 
     fn from(_fault: ExecFault) -> ExecutorFault {
+        ExecutorFault::Memory
+    }
+}
+
+impl From<ItersFault> for ExecutorFault {
+    ghost from_gives = { λ _ fault. fault ≡ Memory };
+
+    fn from(_fault: ItersFault) -> ExecutorFault {
         ExecutorFault::Memory
     }
 }

@@ -1,5 +1,6 @@
 pub mod Moment
 pub mod Plan
+pub mod SlotItems
 pub mod State
 pub mod Scenario
 pub mod Moves

@@ -9,10 +9,12 @@ use Rattle.ld_json.specs.Node.{NodeView}
 use Rattle.ld_json.specs.Pointer.{member_path}
 use Rattle.serde_json.specs.Data.{Data}
 use Rattle.ld_options.specs.Document.{AreOptions, AreOptionsOf, IsRefusal, OfScripts, RefusesDocument, root_of, script_names, scripts_in, scenarios_in}
-use Rattle.ld_options.specs.ConstantArrivals.{RefusesArrivals}
-use Rattle.ld_options.specs.Executors.{IsExecutor, RefusesExecutor}
+use Rattle.ld_options.specs.ConstantArrivals.{AreArrivals, RefusesArrivals}
+use Rattle.ld_options.specs.ConstantUsers.{AreConstant, RefusesConstant}
+use Rattle.ld_options.specs.Executors.{IsExecutor, RefusesExecutor, executor_kind}
 use Rattle.ld_options.specs.Faults.{Refused, of_script}
 use Rattle.ld_options.specs.Fields.{given}
+use Rattle.ld_options.specs.Iterations.{ArePerUser, AreShared, RefusesEach, RefusesPerUser, RefusesShared, count_of_each}
 use Rattle.ld_options.specs.Ranges.{most_scenarios}
 use Rattle.ld_options.specs.Scenarios.{IsLost, IsScenarioOf, IsScript, RefusesFields, RefusesKnown, RefusesScenario, RefusesScript}
 use Rattle.ld_options.specs.Times.{IsSpan, IsTime, RefusesSpan, RefusesTime, span_text}
@@ -50,8 +52,42 @@ one_script names node i j ordered left right =
     let same = one_answer _ left.text right.text left.holds right.holds in
     ordered_number names ordered right.text i j (left.found ∙ ap Some same) right.found
 
-one_executor : (kind : Kind) (node : NodeView) (x y : Executor) → IsExecutor kind node x → IsExecutor kind node y → x ≡ y
-one_executor kinds.ConstantArrivals node (executors.ConstantArrivals a b c d e) (executors.ConstantArrivals f g h i j) left right =
+-- an executor of this kind, and what the fields say of its numbers
+abbrev IsOfKind : Kind → NodeView → Executor → Type 0
+IsOfKind kinds.SharedIterations node x = (v i m : ℕ) × (x ≡ executors.SharedIterations v i m) × AreShared node v i m
+IsOfKind kinds.PerVuIterations node x = (v i m : ℕ) × (x ≡ executors.PerVuIterations v i m) × ArePerUser node v i m
+IsOfKind kinds.ConstantVus node x = (v d : ℕ) × (x ≡ executors.ConstantVus v d) × AreConstant node v d
+IsOfKind kinds.ConstantArrivals node x = (r u d p m : ℕ) × (x ≡ executors.ConstantArrivals r u d p m) × AreArrivals node r u d p m
+
+of_kind : (node : NodeView) (x : Executor) → IsExecutor node x → IsOfKind (executor_kind x) node x
+of_kind node (executors.SharedIterations v i m) are = (v, i, m, refl, are)
+of_kind node (executors.PerVuIterations v i m) are = (v, i, m, refl, are)
+of_kind node (executors.ConstantVus v d) are = (v, d, refl, are)
+of_kind node (executors.ConstantArrivals r u d p m) are = (r, u, d, p, m, refl, are)
+
+one_shared : (node : NodeView) (v i m w j n : ℕ) → AreShared node v i m → AreShared node w j n → executors.SharedIterations v i m ≡ executors.SharedIterations w j n
+one_shared node v i m w j n left right =
+    let vus = one_answer _ v w left.vus_is right.vus_is in
+    let iterations = one_answer _ i j left.iterations_is right.iterations_is in
+    let max_duration = one_time _ _ node _ m n left.max_duration_is right.max_duration_is in
+    rw (vus, iterations, max_duration) refl
+
+one_per_user : (node : NodeView) (v i m w j n : ℕ) → ArePerUser node v i m → ArePerUser node w j n → executors.PerVuIterations v i m ≡ executors.PerVuIterations w j n
+one_per_user node v i m w j n left right =
+    let vus = one_answer _ v w left.vus_is right.vus_is in
+    let iterations = one_answer _ i j (subst (λ u. count_of_each u node ≡ Ok i) vus left.iterations_is) right.iterations_is in
+    let max_duration = one_time _ _ node _ m n left.max_duration_is right.max_duration_is in
+    rw (vus, iterations, max_duration) refl
+
+one_constant : (node : NodeView) (v d w e : ℕ) → AreConstant node v d → AreConstant node w e → executors.ConstantVus v d ≡ executors.ConstantVus w e
+one_constant node v d w e left right =
+    let vus = one_answer _ v w left.vus_is right.vus_is in
+    let duration = one_time _ _ node _ d e left.duration_is right.duration_is in
+    rw (vus, duration) refl
+
+one_arrivals : (node : NodeView) (a b c d e f g h i j : ℕ) → AreArrivals node a b c d e → AreArrivals node f g h i j →
+    executors.ConstantArrivals a b c d e ≡ executors.ConstantArrivals f g h i j
+one_arrivals node a b c d e f g h i j left right =
     let rate = one_answer _ a f left.rate_is right.rate_is in
     let unit = one_time _ _ node _ b g left.unit_is right.unit_is in
     let duration = one_time _ _ node _ c h left.duration_is right.duration_is in
@@ -59,13 +95,24 @@ one_executor kinds.ConstantArrivals node (executors.ConstantArrivals a b c d e) 
     let max = one_answer _ e j (subst (λ p. greatest p node ≡ Ok e) pre left.max_is) right.max_is in
     rw (rate, unit, duration, pre, max) refl
 
+one_of_kind : (kind : Kind) (node : NodeView) (x y : Executor) → IsOfKind kind node x → IsOfKind kind node y → x ≡ y
+one_of_kind kinds.SharedIterations node x y (v, i, m, x_is, left) (w, j, n, y_is, right) = x_is ∙ one_shared node v i m w j n left right ∙ sym y_is
+one_of_kind kinds.PerVuIterations node x y (v, i, m, x_is, left) (w, j, n, y_is, right) = x_is ∙ one_per_user node v i m w j n left right ∙ sym y_is
+one_of_kind kinds.ConstantVus node x y (v, d, x_is, left) (w, e, y_is, right) = x_is ∙ one_constant node v d w e left right ∙ sym y_is
+one_of_kind kinds.ConstantArrivals node x y (a, b, c, d, e, x_is, left) (f, g, h, i, j, y_is, right) =
+    x_is ∙ one_arrivals node a b c d e f g h i j left right ∙ sym y_is
+
+one_executor : (node : NodeView) (x y : Executor) → executor_kind x ≡ executor_kind y → IsExecutor node x → IsExecutor node y → x ≡ y
+one_executor node x y same left right =
+    one_of_kind (executor_kind y) node x y (subst (λ kind. IsOfKind kind node x) same (of_kind node x left)) (of_kind node y right)
+
 scenario_same : (s t : Scenario) → s.name ≡ t.name → s.begin ≡ t.begin → s.grace ≡ t.grace → s.script ≡ t.script → s.executor ≡ t.executor → s ≡ t
 scenario_same s t name begin grace script executor = λ i. record { name = name i; begin = begin i; grace = grace i; script = script i; executor = executor i }
 
 one_scenario : (names : List (List ℕ)) (member : Member) (s t : Scenario) → AreOrdered names → IsScenarioOf names member s → IsScenarioOf names member t → s ≡ t
 one_scenario names member s t ordered left right =
-    let kind = one_answer _ left.kind right.kind left.kind_is right.kind_is in
-    let executor = one_executor right.kind member.1 s.executor t.executor (subst (λ k. IsExecutor k member.1 s.executor) kind left.executor_is) right.executor_is in
+    let kind = one_answer _ (executor_kind s.executor) (executor_kind t.executor) left.kind_is right.kind_is in
+    let executor = one_executor member.1 s.executor t.executor kind left.executor_is right.executor_is in
     scenario_same s t (left.name_is ∙ sym right.name_is) (one_time _ _ member.1 _ s.begin t.begin left.begin_is right.begin_is)
     (one_time _ _ member.1 _ s.grace t.grace left.grace_is right.grace_is) (one_script names member.1 s.script t.script ordered left.script_is right.script_is) executor
 
@@ -144,7 +191,24 @@ arrivals_single node =
     (then_single _ _ (refused_single _)
     (greatest_single node))))
 
+each_single : (node : NodeView) → IsSingle (RefusesEach node)
+each_single node f g left right =
+    let same = one_answer _ left.0 right.0 left.1 right.1 in
+    refused_single (count_of_each right.0 node) f g (subst (λ u. Refused (count_of_each u node) f) same left.2) right.2
+
+shared_single : (node : NodeView) → IsSingle (RefusesShared node)
+shared_single node = then_single _ _ (refused_single _) (then_single _ _ (refused_single _) (time_single _ _ node _))
+
+per_user_single : (node : NodeView) → IsSingle (RefusesPerUser node)
+per_user_single node = then_single _ _ (refused_single _) (then_single _ _ (each_single node) (time_single _ _ node _))
+
+constant_single : (node : NodeView) → IsSingle (RefusesConstant node)
+constant_single node = then_single _ _ (refused_single _) (time_single _ _ node _)
+
 executor_single : (kind : Kind) (node : NodeView) → IsSingle (RefusesExecutor kind node)
+executor_single kinds.SharedIterations node = shared_single node
+executor_single kinds.PerVuIterations node = per_user_single node
+executor_single kinds.ConstantVus node = constant_single node
 executor_single kinds.ConstantArrivals node = arrivals_single node
 
 fields_single : (names : List (List ℕ)) (kind : Kind) (node : NodeView) → IsSingle (RefusesFields names kind node)

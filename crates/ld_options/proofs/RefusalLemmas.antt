@@ -7,11 +7,11 @@ use Rattle.ld_json.specs.Rules.{Accepts}
 use Rattle.ld_options.specs.Executors.{kind_of}
 use Rattle.ld_json.specs.declared.fault.JsonFault.{JsonFault}
 use Rattle.ld_options.specs.Faults.{Refused, of_node}
+use Rattle.ld_options.specs.Iterations.{RefusesEach, count_of_each}
 use Rattle.ld_options.specs.Scenarios.{RefusesFields, RefusesKnown}
-use Rattle.ld_options.specs.Users.{RefusesGreatest, greatest, pre_allocated}
+use Rattle.ld_options.specs.Users.{RefusesGreatest, greatest, pre_allocated, user_count}
 use Rattle.ld_options.specs.declared.fault.OptionsFault.{OptionsFault}
 use Rattle.ld_options.specs.declared.kind.Kind.{Kind}
-use Rattle.ld_options.specs.declared.kind.Kind.TheVariants.{ConstantArrivals}
 
 -- what two answers hold is the same
 pub ok_same : {A E : Type 0} → (x y : A) → ◌≡◌ {A = Result A E} (Ok x) (Ok y) → x ≡ y
@@ -30,6 +30,11 @@ pub greatest_accepts : (node : NodeView) (pre max : ℕ) → pre_allocated node 
 greatest_accepts node pre max planned is fault r =
     ok_accepts (greatest pre node) max is fault (subst (λ p. Refused (greatest p node) fault) (ok_same r.0 pre (sym r.1 ∙ planned)) r.2)
 
+-- a number of iterations of each user that is Ok isn't refused
+pub each_accepts : (node : NodeView) (vus each : ℕ) → user_count node ≡ Ok vus → count_of_each vus node ≡ Ok each → Accepts (RefusesEach node)
+each_accepts node vus each users is fault r =
+    ok_accepts (count_of_each vus node) each is fault (subst (λ u. Refused (count_of_each u node) fault) (ok_same r.0 vus (sym r.1 ∙ users)) r.2)
+
 -- a fault that is handed on
 pub handed_on : {T : Type 0} (Q : OptionsFault → Type 0) (result : Result T OptionsFault) (fault : OptionsFault) →
     IsErr result × IsErrAnd result (λ f. f ≡ fault) → Q fault → IfErr result Q
@@ -39,10 +44,6 @@ handed_on Q (Err f) fault is q = subst Q (sym is.1) q
 -- an answer of a node that is Ok isn't refused
 pub node_accepts : {A : Type 0} → (answer : Result A JsonFault) (x : A) → answer ≡ Ok x → Accepts (Refused (of_node answer))
 node_accepts answer x is = ok_accepts (of_node answer) x (ap of_node is)
-
--- what holds of each kind of executor holds of this one
-pub each_kind : (P : Kind → Type 0) (kind : Kind) → P ConstantArrivals → P kind
-each_kind P ConstantArrivals one = one
 
 -- a scenario whose fields aren't refused isn't refused for them
 pub known_accepts : (names : List (List ℕ)) (node : NodeView) (kind : Kind) → kind_of node ≡ Ok kind →

@@ -1,8 +1,8 @@
 -- The ranges of the numbers of a scenario.
-use Rattle.std.specs.Prelude.{◌≤◌, ℕ, List}
+use Rattle.std.specs.Prelude.{◌≤◌, ◌*◌, ℕ, List}
 use Rattle.std.specs.List.{AllByRecursion}
 use Rattle.ld_options.specs.declared.executor.Executor.{Executor}
-use Rattle.ld_options.specs.declared.executor.Executor.TheVariants.{ConstantArrivals}
+use Rattle.ld_options.specs.declared.executor.Executor.TheVariants.{SharedIterations, PerVuIterations, ConstantVus, ConstantArrivals}
 use Rattle.ld_options.specs.declared.scenario.Scenario.{Scenario}
 
 -- the most scenarios of a test
@@ -29,6 +29,28 @@ greatest_rate = 1000000
 abbrev pub most_users : ℕ
 most_users = 1000
 
+-- the most items of a scenario, over the whole test
+abbrev pub most_items : ℕ
+most_items = 400000
+
+-- the numbers of shared iterations are in their ranges
+pub record AreSharedInRange (vus iterations max_duration : ℕ) : Type 0 where
+  pub users : IsWithin 1 most_users vus
+  pub items : IsWithin 1 most_items iterations
+  pub durations : IsWithin 1 longest max_duration
+
+-- the numbers of iterations per user are in their ranges, and all users together have few enough of them
+pub record ArePerUserInRange (vus iterations max_duration : ℕ) : Type 0 where
+  pub users : IsWithin 1 most_users vus
+  pub items : IsWithin 1 most_items iterations
+  pub few : vus * iterations ≤ most_items
+  pub durations : IsWithin 1 longest max_duration
+
+-- the numbers of constant users are in their ranges
+pub record AreConstantInRange (vus duration : ℕ) : Type 0 where
+  pub users : IsWithin 1 most_users vus
+  pub durations : IsWithin 1 longest duration
+
 -- the numbers of a constant rate of arrivals are in their ranges
 pub record AreArrivalsInRange (rate unit duration pre max : ℕ) : Type 0 where
   pub rates : IsWithin 1 greatest_rate rate
@@ -40,6 +62,9 @@ pub record AreArrivalsInRange (rate unit duration pre max : ℕ) : Type 0 where
 
 -- the numbers of an executor are in their ranges
 abbrev pub IsInRange : Executor → Type 0
+IsInRange (SharedIterations vus iterations max_duration) = AreSharedInRange vus iterations max_duration
+IsInRange (PerVuIterations vus iterations max_duration) = ArePerUserInRange vus iterations max_duration
+IsInRange (ConstantVus vus duration) = AreConstantInRange vus duration
 IsInRange (ConstantArrivals rate unit duration pre max) = AreArrivalsInRange rate unit duration pre max
 
 -- the numbers of a scenario are in their ranges

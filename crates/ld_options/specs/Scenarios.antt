@@ -4,7 +4,7 @@ use Rattle.ld_json.specs.Known.{allowed}
 use Rattle.ld_json.specs.Node.{NodeView}
 use Rattle.ld_json.specs.Pointer.{member_path}
 use Rattle.ld_json.specs.Rules.{Then}
-use Rattle.ld_options.specs.Executors.{IsExecutor, RefusesExecutor, fields_of, kind_of}
+use Rattle.ld_options.specs.Executors.{IsExecutor, RefusesExecutor, executor_kind, fields_of, kind_of}
 use Rattle.ld_options.specs.Faults.{Refused, of_node}
 use Rattle.ld_options.specs.Fields.{given}
 use Rattle.ld_options.specs.Ranges.{longest}
@@ -43,13 +43,12 @@ pub record RefusesScript (names : List (List ℕ)) (node : NodeView) (fault : Op
 
 -- the scenario that a member of `scenarios` says, where the scripts have these names
 pub record IsScenarioOf (names : List (List ℕ)) (member : Member) (s : Scenario) : Type 0 where
-  pub kind : Kind
   pub name_is : s.name ≡ member.0
-  pub kind_is : kind_of member.1 ≡ Ok kind
+  pub kind_is : kind_of member.1 ≡ Ok (executor_kind s.executor)
   pub begin_is : IsTime spans (Some (codes "0s")) member.1 (codes "startTime") s.begin
   pub grace_is : IsTime spans (Some (codes "30s")) member.1 (codes "gracefulStop") s.grace
   pub script_is : IsScript names member.1 s.script
-  pub executor_is : IsExecutor kind member.1 s.executor
+  pub executor_is : IsExecutor member.1 s.executor
 
 -- a member whose name is none is refused at its path
 abbrev pub HasBadName : Member → OptionsFault → Type 0

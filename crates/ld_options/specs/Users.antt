@@ -16,6 +16,10 @@ planned_users = record { least = 0; most = most_users }
 abbrev pub users : Range
 users = record { least = 1; most = most_users }
 
+-- how many users there are; where it isn't given, one
+abbrev pub user_count : NodeView → Result ℕ OptionsFault
+user_count node = number users (Some 1) node (codes "vus")
+
 -- how many users are made before the scenario begins
 abbrev pub pre_allocated : NodeView → Result ℕ OptionsFault
 pre_allocated node = number planned_users None node (codes "preAllocatedVUs")

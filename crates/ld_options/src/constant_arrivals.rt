@@ -1,8 +1,8 @@
 // Scenarios at a constant rate of arrivals.
-ghost use Rattle.std.specs.Prelude.{◌≢◌, IfErr, IfOk};
+ghost use Rattle.std.specs.Prelude.{◌≡◌, ◌≢◌, IfErr, IfOk};
 ghost use Rattle.ld_json.specs.Rules.{Accepts};
 ghost use Rattle.ld_options.specs.ConstantArrivals.{RefusesArrivals};
-ghost use Rattle.ld_options.specs.Executors.{IsExecutor};
+ghost use Rattle.ld_options.specs.Executors.{IsExecutor, executor_kind};
 ghost use Rattle.ld_options.specs.Ranges.{IsInRange};
 ghost use Rattle.ld_options.specs.declared.fault.OptionsFault.TheVariants.{Memory};
 ghost use Rattle.ld_options.specs.declared.kind.Kind.TheVariants.{ConstantArrivals};
@@ -24,7 +24,8 @@ const RATES: Range = Range {
 
 // The constant rate of arrivals that the fields of a scenario say.
 pub(crate) fn constant_arrivals(alloc: Global, node: &Node<'_>) -> Result<Executor, OptionsFault>
-    ensures value { IfOk result (IsExecutor ConstantArrivals node.now) }
+    ensures kind { IfOk result (λ executor. executor_kind executor ≡ ConstantArrivals) }
+    ensures value { IfOk result (IsExecutor node.now) }
     ensures within { IfOk result IsInRange }
     ensures accepted { IfOk result (λ _. Accepts (RefusesArrivals node.now)) }
     ensures refused { IfErr result (λ f. f ≢ Memory → RefusesArrivals node.now f) }

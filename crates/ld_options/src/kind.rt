@@ -1,6 +1,6 @@
 // The kinds of executors.
 ghost use Rattle.std.specs.Prelude.{◌≡◌};
-ghost use Rattle.ld_options.specs.Executors.{fields_of, kind_named, kind_of};
+ghost use Rattle.ld_options.specs.Executors.{fields_of, kind_named, kind_of, name_of};
 ghost use Rattle.ld_options.specs.Faults.{Answers};
 
 use crate::fault::OptionsFault;
@@ -11,6 +11,9 @@ use std::alloc::Global;
 /// A kind of executor.
 #[derive(Clone, Copy, PartialEq, Eq)]
 pub(crate) enum Kind {
+    SharedIterations,
+    PerVuIterations,
+    ConstantVus,
     ConstantArrivals,
 }
 
@@ -26,14 +29,32 @@ impl Kind {
         }
     }
 
-    // The executor of this name.
+    // The kind of this name.
     fn named(name: &[u8]) -> Option<Kind>
         ensures { result ≡ kind_named name.now }
     {
-        if name == b"constant-arrival-rate".as_slice() {
+        if name == Kind::SharedIterations.name().as_bytes() {
+            Some(Kind::SharedIterations)
+        } else if name == Kind::PerVuIterations.name().as_bytes() {
+            Some(Kind::PerVuIterations)
+        } else if name == Kind::ConstantVus.name().as_bytes() {
+            Some(Kind::ConstantVus)
+        } else if name == Kind::ConstantArrivals.name().as_bytes() {
             Some(Kind::ConstantArrivals)
         } else {
             None
+        }
+    }
+
+    // The name of the executors of this kind.
+    pub(crate) fn name(self) -> &'static str
+        ensures { result.now ≡ name_of self }
+    {
+        match self {
+            Kind::SharedIterations => "shared-iterations",
+            Kind::PerVuIterations => "per-vu-iterations",
+            Kind::ConstantVus => "constant-vus",
+            Kind::ConstantArrivals => "constant-arrival-rate",
         }
     }
 
@@ -42,6 +63,10 @@ impl Kind {
         ensures { result.now ≡ fields_of self }
     {
         match self {
+            Kind::SharedIterations | Kind::PerVuIterations => {
+                "executor startTime gracefulStop exec vus iterations maxDuration"
+            }
+            Kind::ConstantVus => "executor startTime gracefulStop exec vus duration",
             Kind::ConstantArrivals => {
                 "executor startTime gracefulStop exec rate timeUnit duration preAllocatedVUs maxVUs"
             }

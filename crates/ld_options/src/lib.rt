@@ -2,10 +2,12 @@
 #![tactic(auto)]
 
 mod constant_arrivals;
+mod constant_users;
 mod document;
 mod executor;
 mod fault;
 mod fields;
+mod iterations;
 mod kind;
 mod laws;
 mod member;

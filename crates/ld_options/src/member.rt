@@ -1,15 +1,17 @@
 // Members of `scenarios`.
 ghost use Rattle.std.specs.Prelude.{◌≡◌, ◌≢◌, ◌<◌, IfErr, IfOk, Ok, OnOk, length};
 ghost use Rattle.ld_json.specs.Rules.{Accepts};
-ghost use Rattle.ld_options.specs.Executors.{IsExecutor, RefusesExecutor, kind_of};
+ghost use Rattle.ld_options.specs.Executors.{IsExecutor, RefusesExecutor, executor_kind, kind_of};
 ghost use Rattle.ld_options.specs.Ranges.{IsInRange, IsScenarioInRange};
 ghost use Rattle.ld_options.specs.Scenarios.{HasBadName, IsScenarioOf, IsScript, RefusesFields, RefusesScenario, RefusesScript};
 ghost use Rattle.ld_options.specs.declared.fault.OptionsFault.TheVariants.{Memory};
 
 use crate::constant_arrivals::constant_arrivals;
+use crate::constant_users::constant_users;
 use crate::executor::Executor;
 use crate::fault::OptionsFault;
 use crate::fields::text_given;
+use crate::iterations::{iterations_per_user, shared_iterations};
 use crate::kind::Kind;
 use crate::range::Range;
 use crate::scenario::Scenario;
@@ -98,12 +100,16 @@ fn script(alloc: Global, node: &Node<'_>, scripts: &Scripts) -> Result<u16, Opti
 
 // The executor of this kind that the fields say.
 fn executor(alloc: Global, kind: Kind, node: &Node<'_>) -> Result<Executor, OptionsFault>
-    ensures value { IfOk result (IsExecutor kind node.now) }
+    ensures kind { IfOk result (λ executor. executor_kind executor ≡ kind) }
+    ensures value { IfOk result (IsExecutor node.now) }
     ensures within { IfOk result IsInRange }
     ensures accepted { IfOk result (λ _. Accepts (RefusesExecutor kind node.now)) }
     ensures refused { IfErr result (λ f. f ≢ Memory → RefusesExecutor kind node.now f) }
 {
     match kind {
+        Kind::SharedIterations => shared_iterations(alloc, node),
+        Kind::PerVuIterations => iterations_per_user(alloc, node),
+        Kind::ConstantVus => constant_users(alloc, node),
         Kind::ConstantArrivals => constant_arrivals(alloc, node),
     }
 }

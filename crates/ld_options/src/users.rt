@@ -2,10 +2,10 @@
 ghost use Rattle.std.specs.Prelude.{◌≤◌, IfOk};
 ghost use Rattle.ld_options.specs.Faults.{Answers};
 ghost use Rattle.ld_options.specs.Ranges.{IsWithin, most_users};
-ghost use Rattle.ld_options.specs.Users.{greatest as greatest_of};
+ghost use Rattle.ld_options.specs.Users.{greatest as greatest_of, user_count};
 
 use crate::fault::OptionsFault;
-use crate::fields::{ranged, whole_given};
+use crate::fields::{number, ranged, whole_given};
 use crate::range::Range;
 use ld_json::Node;
 use std::alloc::Global;
@@ -16,11 +16,19 @@ pub(crate) const PLANNED_USERS: Range = Range {
     most: 1_000,
 };
 
-/// The range of the greatest number of users.
+/// The range of the number of users, and of the greatest one.
 pub(crate) const USERS: Range = Range {
     least: 1,
     most: 1_000,
 };
+
+// How many users there are.
+pub(crate) fn user_count(alloc: Global, node: &Node<'_>) -> Result<u32, OptionsFault>
+    ensures answer { Answers result (user_count node.now) }
+    ensures within { IfOk result (λ vus. IsWithin 1 most_users vus) }
+{
+    Ok(number(alloc, node, "vus", Some(1), USERS)? as u32)
+}
 
 // The greatest number of users, which isn't below those that are made before.
 pub(crate) fn greatest(alloc: Global, node: &Node<'_>, pre: u64) -> Result<u64, OptionsFault>

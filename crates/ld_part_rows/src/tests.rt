@@ -1,5 +1,6 @@
 mod arrivals;
 mod documents;
+mod executors;
 mod moments;
 mod numbers;
 mod options;

@@ -1,5 +1,5 @@
 -- The plans of all positions of a sequence have the whole test together.
-use Rattle.std.proofs.Common.{◌≡◌, ◌∙◌, ℕ, zero, suc, List, [], ◌∷◌, ◌++◌, length, map, slice_get, arith, ap, ap₂, refl, sym, subst}
+use Rattle.std.proofs.Common.{◌≡◌, ◌<◌, ◌∙◌, ℕ, zero, suc, List, [], ◌∷◌, ◌++◌, length, map, slice_get, filter, nat_eq, arith, ap, ap₂, refl, sym, subst}
 use Rattle.std.specs.Prelude.{IsPermutation, Some, None, Option, sum, sum_by}
 use Rattle.std.specs.List.{AllByRecursion, AllZip, flat_map, range_with_len}
 use Rattle.std.specs.Option.{option_map_or}
@@ -11,22 +11,22 @@ use Rattle.std.proofs.lemmas.Option.{slice_get-map, same_Some}
 use Rattle.ld_num.specs.declared.fraction.Frac.{Frac}
 use Rattle.ld_segment.specs.Segments.{segments_of}
 use Rattle.ld_segment.specs.declared.segment.Segment.{Segment}
-use Rattle.ld_stripe.specs.Striping.{Striping, share_at, shares_at}
+use Rattle.ld_stripe.specs.Striping.{Striping, owner_at, share_at, shares_at}
 use Rattle.ld_stripe.proofs.StripingLaws.{shares_sum}
-use Rattle.ld_arrival.specs.Schedule.{owned_pairs, schedule}
-use Rattle.ld_arrival.proofs.ScheduleLaws.{owned_whole}
-use Rattle.ld_machine.specs.Plan.{Part}
+use Rattle.ld_arrival.specs.Schedule.{owned_pairs}
+use Rattle.ld_arrival.proofs.ScheduleLaws.{each_owned_once, owned_whole}
+use Rattle.ld_machine.specs.Plan.{Part, owned_items, owned_slots}
 use Rattle.ld_machine.specs.Scenario.{executor_arrivals}
 use Rattle.ld_options.specs.Ranges.{IsScenarioInRange}
 use Rattle.ld_options.specs.declared.options.Options.{Options}
 use Rattle.ld_options.specs.declared.scenario.Scenario.{Scenario}
-use Rattle.ld_plan.specs.Executor.{timetable_of, pre_of, max_of}
+use Rattle.ld_plan.specs.Executor.{max_of, pre_of, slot_count, timetable_of, whole_count}
 use Rattle.ld_plan.specs.IsPlanOf.{IsItemStriping, IsPartOf, IsPlanOf, IsSequenceStriping, IsSound, part_of, sample_room}
 use Rattle.ld_plan.specs.PartView.{PartView}
-use Rattle.ld_plan.specs.PlanView.{PlanView, arrival_of}
+use Rattle.ld_plan.specs.PlanView.{PlanView, arrival_of, schedule_of}
 use Rattle.ld_machine.specs.Requirement.{most_owned_users, owned_users}
-use Rattle.ld_plan.specs.Whole.{AreAllPlans, arrivals_at, most_users_at, users_at}
-use Rattle.ld_plan.proofs.ExecutorLemmas.{arrivals_owned, most_users_owned, some_users, users_owned}
+use Rattle.ld_plan.specs.Whole.{AreAllPlans, arrivals_at, items_at, most_users_at, slots_at, users_at}
+use Rattle.ld_plan.proofs.ExecutorLemmas.{arrivals_owned, item_owner, item_owner_inside, items_owned, most_users_owned, slots_owned, some_users, users_owned}
 use Rattle.ld_plan.proofs.StripingLemmas.{IsSpread, one_rescaled, one_sequence_striping, owner_inside, rescaled_spread, sequence_spread, sequence_striping, striping_of}
 
 -- ---- one plan at one scenario
@@ -87,10 +87,10 @@ have_parts options sequence striping items n s (seen ∷ plans) sound striped re
 -- the arrivals of all
 all_arrivals : (options : Options) (striping items : Striping) (n : ℕ) (s : Scenario) (plans : List PlanView) → HaveParts options striping items n s plans →
     flat_map (arrivals_at n) plans
-    ≡ map arrival_of (flat_map (λ j. owned_pairs items.owners j (schedule (timetable_of s.executor))) (map (λ (seen : PlanView). seen.position) plans))
+    ≡ map arrival_of (flat_map (λ j. owned_pairs items.owners j (schedule_of (timetable_of s.executor))) (map (λ (seen : PlanView). seen.position) plans))
 all_arrivals options striping items n s [] have = refl
 all_arrivals options striping items n s (seen ∷ plans) have =
-    let pairs = λ (j : ℕ). owned_pairs items.owners j (schedule (timetable_of s.executor)) in
+    let pairs = λ (j : ℕ). owned_pairs items.owners j (schedule_of (timetable_of s.executor)) in
     let places = map (λ (seen : PlanView). seen.position) plans in
     let rest = all_arrivals options striping items n s plans have.1 in
     let here : arrivals_at n seen ≡ map arrival_of (pairs seen.position) =
@@ -100,6 +100,26 @@ all_arrivals options striping items n s (seen ∷ plans) have =
     ∙ ap₂ (λ xs ys. xs ++ ys) here rest
     ∙ sym (map-append arrival_of (pairs seen.position) (flat_map pairs places))
     ∙ ap (map arrival_of) (sym (flat_map-cons pairs seen.position places))
+
+-- the numbers of all, where each part has those that go to its position
+abbrev numbers_at : (Part → List ℕ) → ℕ → PlanView → List ℕ
+numbers_at numbers n seen = option_map_or numbers (slice_get seen.plan.parts n) []
+
+all_numbers : (numbers : Part → List ℕ) (options : Options) (striping items : Striping) (n : ℕ) (s : Scenario) (owner : ℕ → ℕ) (v : ℕ) (plans : List PlanView) →
+    ((room j : ℕ) → numbers (part_of room striping items j s) ≡ filter (λ x. nat_eq (owner x) j) (range_with_len 0 v)) →
+    HaveParts options striping items n s plans →
+    flat_map (numbers_at numbers n) plans
+    ≡ flat_map (λ j. filter (λ x. nat_eq (owner x) j) (range_with_len 0 v)) (map (λ (seen : PlanView). seen.position) plans)
+all_numbers numbers options striping items n s owner v [] those have = refl
+all_numbers numbers options striping items n s owner v (seen ∷ plans) those have =
+    let own = λ (j : ℕ). filter (λ x. nat_eq (owner x) j) (range_with_len 0 v) in
+    let rest = all_numbers numbers options striping items n s owner v plans those have.1 in
+    let here : numbers_at numbers n seen ≡ own seen.position =
+    ap (λ (o : Option Part). option_map_or numbers o []) have.0
+    ∙ those (sample_room options.scripts.scripts s.script) seen.position in
+    flat_map-cons (numbers_at numbers n) seen plans
+    ∙ ap₂ (λ xs ys. xs ++ ys) here rest
+    ∙ sym (flat_map-cons own seen.position (map (λ (seen : PlanView). seen.position) plans))
 
 -- the users of all
 all_users : (options : Options) (striping items : Striping) (n : ℕ) (s : Scenario) (plans : List PlanView) → HaveParts options striping items n s plans →
@@ -153,16 +173,49 @@ owned options sequence plans sound all n s there =
       have = have_parts options sequence striping.0 items.0 n s plans sound striping.1 items.1 there all.each;
     }
 
-pub items_owned_once : (options : Options) (sequence : List Frac) (plans : List PlanView) → IsSound options sequence →
+pub arrivals_owned_once : (options : Options) (sequence : List Frac) (plans : List PlanView) → IsSound options sequence →
     AreAllPlans options sequence plans → (n : ℕ) (s : Scenario) → slice_get options.scenarios n ≡ Some s →
-    IsPermutation (map arrival_of (schedule (timetable_of s.executor))) (flat_map (arrivals_at n) plans)
-items_owned_once options sequence plans sound all n s there =
+    IsPermutation (map arrival_of (schedule_of (timetable_of s.executor))) (flat_map (arrivals_at n) plans)
+arrivals_owned_once options sequence plans sound all n s there =
     let o = owned options sequence plans sound all n s there in
-    let pairs = schedule (timetable_of s.executor) in
+    let pairs = schedule_of (timetable_of s.executor) in
     let split = owned_whole o.items.owners (length (segments_of sequence)) (λ x. owner_inside o.items (length (segments_of sequence)) x o.items_spread) pairs in
     let placed = subst (λ places. IsPermutation pairs (flat_map (λ j. owned_pairs o.items.owners j pairs) places)) (sym all.positions) split in
     subst (IsPermutation (map arrival_of pairs)) (sym (all_arrivals options o.striping o.items n s plans o.have))
     (IsPermutation-map arrival_of _ _ placed)
+
+-- numbers below v that each go to one of the positions are owned once
+numbers_owned_once : (numbers : Part → List ℕ) (options : Options) (sequence : List Frac) (plans : List PlanView) (striping items : Striping) (n : ℕ) (s : Scenario)
+    (owner : ℕ → ℕ) (v : ℕ) → AreAllPlans options sequence plans → HaveParts options striping items n s plans →
+    ((x : ℕ) → owner x < length (segments_of sequence)) →
+    ((room j : ℕ) → numbers (part_of room striping items j s) ≡ filter (λ x. nat_eq (owner x) j) (range_with_len 0 v)) →
+    IsPermutation (range_with_len 0 v) (flat_map (numbers_at numbers n) plans)
+numbers_owned_once numbers options sequence plans striping items n s owner v all have inside those =
+    let row = range_with_len 0 v in
+    let split = each_owned_once owner (length (segments_of sequence)) inside row in
+    let placed = subst (λ places. IsPermutation row (flat_map (λ j. filter (λ x. nat_eq (owner x) j) row) places)) (sym all.positions) split in
+    subst (IsPermutation row) (sym (all_numbers numbers options striping items n s owner v plans those have)) placed
+
+pub items_owned_once : (options : Options) (sequence : List Frac) (plans : List PlanView) → IsSound options sequence →
+    AreAllPlans options sequence plans → (n : ℕ) (s : Scenario) → slice_get options.scenarios n ≡ Some s →
+    IsPermutation (range_with_len 0 (whole_count s.executor)) (flat_map (items_at n) plans)
+items_owned_once options sequence plans sound all n s there =
+    let o = owned options sequence plans sound all n s there in
+    let range = in_range_at options.scenarios n s sound.in_range there in
+    numbers_owned_once (λ (part : Part). owned_items part.executor) options sequence plans o.striping o.items n s
+    (item_owner s.executor o.items.owners o.striping) (whole_count s.executor) all o.have
+    (λ x. item_owner_inside s.executor o.items o.striping (length (segments_of sequence)) x o.items_spread o.spread)
+    (λ room j. items_owned s.executor o.items.owners o.striping j range.executor)
+
+pub slots_owned_once : (options : Options) (sequence : List Frac) (plans : List PlanView) → IsSound options sequence →
+    AreAllPlans options sequence plans → (n : ℕ) (s : Scenario) → slice_get options.scenarios n ≡ Some s →
+    IsPermutation (range_with_len 0 (slot_count s.executor)) (flat_map (slots_at n) plans)
+slots_owned_once options sequence plans sound all n s there =
+    let o = owned options sequence plans sound all n s there in
+    numbers_owned_once (λ (part : Part). owned_slots part.executor) options sequence plans o.striping o.items n s
+    (owner_at o.striping.owners) (slot_count s.executor) all o.have
+    (λ x. owner_inside o.striping (length (segments_of sequence)) x o.spread)
+    (λ room j. slots_owned s.executor o.items.owners o.striping j)
 
 -- the shares of all positions sum to the whole
 pub shares_whole : (options : Options) (sequence : List Frac) (plans : List PlanView) (striping : Striping) (v : ℕ) → AreAllPlans options sequence plans →

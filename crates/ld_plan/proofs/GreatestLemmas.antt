@@ -6,12 +6,11 @@ use Rattle.std.proofs.Math.Decide.{dec_lt}
 use Rattle.std.proofs.lemmas.Bool.{le-leb, leb-true, lt-ltb, ltb-true}
 use Rattle.std.proofs.lemmas.List.{take_all, take_more}
 use Rattle.std.proofs.lemmas.List.Sums.{sum_by-cons}
-use Rattle.ld_arrival.specs.Timetable.{end_of}
 use Rattle.ld_machine.specs.Moment.{moment_after}
 use Rattle.ld_machine.specs.Requirement.{IsGreatest}
 use Rattle.ld_options.specs.declared.scenario.Scenario.{Scenario}
 use Rattle.ld_options.proofs.ScenarioLemmas.{each_push}
-use Rattle.ld_plan.specs.Executor.{timetable_of}
+use Rattle.ld_plan.specs.Executor.{length_of}
 use Rattle.ld_plan.specs.Need.{is_on}
 
 -- ---- the last begin
@@ -89,7 +88,7 @@ users_earlier : (amount : Scenario → ℕ) (scenarios : List Scenario) (t m : �
     AllByRecursion (λ (s : Scenario). s.begin ≤ t → s.begin ≤ m) scenarios → users_at amount scenarios t ≤ users_at amount scenarios m
 users_earlier amount [] t m within last = omega arith
 users_earlier amount (s ∷ rest) t m within last =
-    let hard = moment_after (moment_after s.begin (end_of (timetable_of s.executor))) s.grace in
+    let hard = moment_after (moment_after s.begin (length_of s.executor)) s.grace in
     let others = users_earlier amount rest t m within last.1 in
     let one : cond (is_on t s) (amount s) 0 ≤ cond (is_on m s) (amount s) 0 = on_earlier s.begin hard t m (amount s) within last.0 in
     let left = sum_by-cons (λ (x : Scenario). cond (is_on t x) (amount x) 0) s rest in

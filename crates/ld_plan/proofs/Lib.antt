@@ -1,8 +1,10 @@
 pub mod WholeLemmas
 pub mod OwnedLemmas
+pub mod SlotItemsLemmas
 pub mod GreatestLemmas
 pub mod StripingLemmas
 pub mod ExecutorLemmas
+pub mod OwnedSlotsLemmas
 pub mod PartLemmas
 pub mod PartsLemmas
 pub mod TimedLemmas

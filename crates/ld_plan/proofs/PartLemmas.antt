@@ -17,7 +17,6 @@ use Rattle.ld_plan.specs.Executor.{max_of}
 use Rattle.ld_plan.specs.IsPlanOf.{AreOwned, AreParts, IsPartOf, IsSound, part_of, sample_room, whole_of}
 use Rattle.ld_plan.specs.PartView.{PartView}
 use Rattle.ld_plan.specs.PlanView.{Whole}
-pub use Rattle.ld_plan.proofs.ExecutorLemmas.{pre_within, within_limits}
 use Rattle.ld_plan.proofs.ExecutorLemmas.{some_users}
 use Rattle.ld_plan.proofs.StripingLemmas.{IsSpread, one_rescaled, one_sequence_striping, sequence_spread, sequence_striping, striping_of}
 
@@ -27,7 +26,7 @@ one_part : (room : ℕ) (striping : Striping) (n j : ℕ) (s : Scenario) (a b : 
 one_part room striping n j s a b spread ranges of_a of_b =
     let same = one_rescaled striping of_a.items of_b.items n (max_of s.executor) spread (some_users s.executor ranges) of_a.rescaled of_b.rescaled in
     let part = of_a.part_is ∙ ap (λ (items : Striping). part_of room striping items j s) same ∙ sym of_b.part_is in
-    let whole = of_a.whole_is ∙ ap (λ (items : Striping). whole_of items s) same ∙ sym of_b.whole_is in
+    let whole = of_a.whole_is ∙ sym of_b.whole_is in
     ap₂ (λ (p : Part) (w : Whole). record { part = p; whole = w }) part whole
 
 -- and so one list of parts of scenarios
@@ -73,7 +72,7 @@ parts_of_scenarios options striping j [] = ([], tt)
 parts_of_scenarios options striping j (s ∷ rest) =
     let items = striping_of (shares_at striping (max_of s.executor)) in
     let room = sample_room options.scripts.scripts s.script in
-    let view : PartView = record { part = part_of room striping items.0 j s; whole = whole_of items.0 s } in
+    let view : PartView = record { part = part_of room striping items.0 j s; whole = whole_of s } in
     let others = parts_of_scenarios options striping j rest in
     (view ∷ others.0, (record { items = items.0; rescaled = items.1; part_is = refl; whole_is = refl }, others.1))
 

@@ -7,13 +7,13 @@ use Rattle.std.proofs.lemmas.List.{take_all, take_more}
 use Rattle.std.proofs.lemmas.Option.{slice_get_read}
 use Rattle.ld_stripe.specs.Striping.{Striping}
 use Rattle.ld_arrival.specs.Limits.{most_arrivals}
-use Rattle.ld_arrival.specs.Timetable.{planned_count}
 use Rattle.ld_options.specs.declared.options.Options.{Options}
 use Rattle.ld_options.specs.declared.scenario.Scenario.{Scenario}
 use Rattle.ld_options.proofs.ScenarioLemmas.{each_push, zip_push}
 use Rattle.ld_plan.specs.Executor.{timetable_of}
 use Rattle.ld_plan.specs.IsPlanOf.{IsPartOf, sample_room}
 use Rattle.ld_plan.specs.PartView.{PartView}
+use Rattle.ld_plan.specs.PlanView.{arrival_count}
 use Rattle.ld_plan.specs.PlanFault.{AreFew, HasTooMany, IsFirstMany, IsManyOf}
 use Rattle.ld_plan.specs.declared.fault.PlanFault.{PlanFault}
 use Rattle.ld_plan.specs.declared.fault.PlanFault.TheVariants.{NotInSequence, PeriodTooLarge, TooManyArrivals, TooManyUsers, JournalTooSmall, Memory}
@@ -32,7 +32,7 @@ pub record MadeSoFar (options : Options) (striping : Striping) (j : ℕ) (done :
 -- one part more is made, of the scenario that stands at this place
 pub made_at : (options : Options) (striping : Striping) (j : ℕ) (scenarios : List Scenario) (i : ℕ) (s : Scenario)
     (views : List PartView) (view : PartView) → i < length scenarios → s ≡ get_or scenarios i s → MadeSoFar options striping j (take i scenarios) views →
-    IsPartOf (sample_room options.scripts.scripts s.script) striping j s view → planned_count (timetable_of s.executor) ≤ most_arrivals →
+    IsPartOf (sample_room options.scripts.scripts s.script) striping j s view → arrival_count (timetable_of s.executor) ≤ most_arrivals →
     MadeSoFar options striping j (take (i + 1) scenarios) (views ++ view ∷ [])
 made_at options striping j scenarios i s views view inside is so_far part few =
     subst (λ (done : List Scenario). MadeSoFar options striping j done (views ++ view ∷ []))
@@ -40,7 +40,7 @@ made_at options striping j scenarios i s views view inside is so_far part few =
     (record {
       owned = zip_push (λ (t : Scenario). IsPartOf (sample_room options.scripts.scripts t.script) striping j t)
           (take i scenarios) views s view so_far.owned part;
-      few = each_push (λ (t : Scenario). planned_count (timetable_of t.executor) ≤ most_arrivals) (take i scenarios) s so_far.few few;
+      few = each_push (λ (t : Scenario). arrival_count (timetable_of t.executor) ≤ most_arrivals) (take i scenarios) s so_far.few few;
     })
 
 -- all are made

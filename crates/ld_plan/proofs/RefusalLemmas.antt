@@ -11,13 +11,13 @@ use Rattle.ld_segment.specs.declared.segment.Segment.{Segment}
 use Rattle.ld_segment.proofs.PointLemmas.{same_point}
 use Rattle.ld_segment.proofs.WeightsPeriodLemmas.{period_exists, period_unique}
 use Rattle.ld_arrival.specs.Limits.{most_arrivals}
-use Rattle.ld_arrival.specs.Timetable.{planned_count}
 use Rattle.ld_options.specs.Ranges.{most_users}
 use Rattle.ld_options.specs.declared.options.Options.{Options}
 use Rattle.ld_options.specs.declared.scenario.Scenario.{Scenario}
 use Rattle.ld_plan.specs.Executor.{timetable_of}
 use Rattle.ld_plan.specs.IsPlanOf.{IsSound}
 use Rattle.ld_plan.specs.PartView.{parts_of}
+use Rattle.ld_plan.specs.PlanView.{arrival_count}
 use Rattle.ld_plan.specs.PlanFault.{AreFew, HasFewUsers, HasFirstMany, HasShortPeriod, IsAccepted, IsNeeded, IsRefusal, IsWholeLimit, StandsAt, needed_entries}
 use Rattle.ld_plan.specs.declared.fault.PlanFault.{PlanFault}
 use Rattle.ld_plan.specs.declared.fault.PlanFault.TheVariants.{NotInSequence, PeriodTooLarge, TooManyArrivals, TooManyUsers, JournalTooSmall, Memory}
@@ -78,8 +78,8 @@ stands_or_not segment sequence = in_list_or_not (segments_of sequence) (ends seg
 -- each has few, or there is a first that has too many
 few_or_many : (scenarios : List Scenario) → AreFew scenarios ⊎ ((n : ℕ) × (told : ℕ) × HasFirstMany scenarios n told)
 few_or_many [] = inl tt
-few_or_many (s ∷ rest) = elim (dec_lt most_arrivals (planned_count (timetable_of s.executor))) [
-  | yes many ↦ inr (0, min (planned_count (timetable_of s.executor)) (2 ^ 64 - 1), record { before = tt; here = record { many = many; number = refl } })
+few_or_many (s ∷ rest) = elim (dec_lt most_arrivals (arrival_count (timetable_of s.executor))) [
+  | yes many ↦ inr (0, min (arrival_count (timetable_of s.executor)) (2 ^ 64 - 1), record { before = tt; here = record { many = many; number = refl } })
   | no few ↦ elim (few_or_many rest) [
     | inl all ↦ inl (omega arith, all)
     | inr behind ↦ inr (suc behind.0, behind.1, record { before = (omega arith, behind.2.before); here = behind.2.here })

@@ -9,14 +9,13 @@ use Rattle.ld_segment.specs.Segments.{IsSequence, segments_of}
 use Rattle.ld_segment.specs.Weights.{HasWeights}
 use Rattle.ld_segment.specs.declared.segment.Segment.{Segment}
 use Rattle.ld_stripe.specs.Striping.{Striping, IsStripingOf, shares_at}
-use Rattle.ld_arrival.specs.Timetable.{end_of, planned_count}
 use Rattle.ld_machine.specs.Moment.{moment_after}
 use Rattle.ld_machine.specs.Plan.{Part}
 use Rattle.ld_script.specs.declared.script.Script.{Script}
 use Rattle.ld_options.specs.Ranges.{AreInRange}
 use Rattle.ld_options.specs.declared.options.Options.{Options}
 use Rattle.ld_options.specs.declared.scenario.Scenario.{Scenario}
-use Rattle.ld_plan.specs.Executor.{max_of, owned_executor, timetable_of}
+use Rattle.ld_plan.specs.Executor.{length_of, max_of, owned_executor, timetable_of, whole_count}
 use Rattle.ld_plan.specs.PartView.{PartView, parts_of, wholes_of}
 use Rattle.ld_plan.specs.PlanView.{PlanView, Whole}
 use Rattle.ld_machine.specs.Requirement.{IsRequirement}
@@ -40,20 +39,19 @@ IsItemStriping striping scenario items = IsStripingOf (shares_at striping (max_o
 abbrev pub sample_room : List Script → ℕ → ℕ
 sample_room scripts n = option_map_or (λ (s : Script). s.room) (slice_get scripts n) 0
 
--- the scenario of the whole test, whose items are striped so
-abbrev pub whole_of : Striping → Scenario → Whole
-whole_of items scenario =
-    record { name = scenario.name; timetable = timetable_of scenario.executor; owners = items.owners }
+-- the scenario of the whole test
+abbrev pub whole_of : Scenario → Whole
+whole_of scenario = record { name = scenario.name; timetable = timetable_of scenario.executor }
 
--- the part that position j owns of it: its share of the users, and the items that go to it
+-- the part that position j owns of it: its share of the users, its slots, and the items that go to it
 abbrev pub part_of : ℕ → Striping → Striping → ℕ → Scenario → Part
 part_of room striping items j scenario =
     record {
       begin = scenario.begin;
-      end = moment_after scenario.begin (end_of (timetable_of scenario.executor));
+      end = moment_after scenario.begin (length_of scenario.executor);
       grace = scenario.grace;
       sample_room = room;
-      whole_items = planned_count (timetable_of scenario.executor);
+      whole_items = whole_count scenario.executor;
       executor = owned_executor scenario.executor items.owners striping j;
     }
 
@@ -62,7 +60,7 @@ pub record IsPartOf (room : ℕ) (striping : Striping) (j : ℕ) (scenario : Sce
   pub items : Striping
   pub rescaled : IsItemStriping striping scenario items
   pub part_is : view.part ≡ part_of room striping items j scenario
-  pub whole_is : view.whole ≡ whole_of items scenario
+  pub whole_is : view.whole ≡ whole_of scenario
 
 -- these are the parts that position j owns of all scenarios
 abbrev pub AreOwned : Options → Striping → ℕ → List PartView → Type 0

@@ -5,6 +5,8 @@ pub mod Row
 pub mod PartView
 pub mod OwnedItems
 pub mod OwnedArrivals
+pub mod OwnedIterations
+pub mod OwnedSlots
 pub mod OwnedPart
 pub mod IsPlanOf
 pub mod Whole

@@ -1,15 +1,14 @@
 -- The users that a position needs of the scenarios of a test at a moment.
 use Rattle.std.specs.Prelude.{◌&&◌, ℕ, Bool, List, nat_le, nat_lt, sum_by, if◌then◌else◌}
 use Rattle.ld_stripe.specs.Striping.{share_at}
-use Rattle.ld_arrival.specs.Timetable.{end_of}
 use Rattle.ld_machine.specs.Moment.{moment_after}
 use Rattle.ld_options.specs.declared.scenario.Scenario.{Scenario}
-use Rattle.ld_plan.specs.Executor.{max_of, pre_of, timetable_of}
+use Rattle.ld_plan.specs.Executor.{length_of, max_of, pre_of}
 
 -- a scenario is on: from its begin up to and without its hard moment
 abbrev pub is_on : ℕ → Scenario → Bool
 is_on t s =
-    nat_le s.begin t && nat_lt t (moment_after (moment_after s.begin (end_of (timetable_of s.executor))) s.grace)
+    nat_le s.begin t && nat_lt t (moment_after (moment_after s.begin (length_of s.executor)) s.grace)
 
 -- the users that position j, of those with these owners, plans of a scenario, and those that it may have
 abbrev pub planned_on : List ℕ → ℕ → ℕ → Scenario → ℕ

@@ -1,5 +1,5 @@
 -- What a position owns of a scenario's users and items.
-use Rattle.std.specs.Prelude.{◌≡◌, ℕ, List, Contains}
+use Rattle.std.specs.Prelude.{◌≡◌, ℕ, Contains, None, Option, Some}
 use Rattle.ld_stripe.specs.Striping.{Striping, IsStripingOf, shares_at}
 use Rattle.ld_arrival.specs.Timetable.{Timetable, Constant, planned_count}
 use Rattle.ld_machine.specs.Plan as machine
@@ -7,21 +7,37 @@ use Rattle.ld_machine.specs.Plan.{Arrival}
 use Rattle.ld_machine.specs.Scenario.{executor_arrivals}
 use Rattle.ld_options.specs.declared.executor.Executor.{Executor}
 use Rattle.ld_options.specs.declared.executor.Executor.TheVariants.{ConstantArrivals}
-use Rattle.ld_plan.specs.Executor.{max_of, owned_executor, timetable_of}
+use Rattle.ld_plan.specs.Executor.{max_of, owned_executor, timetable_of, whole_count}
 use Rattle.ld_plan.specs.declared.owned_arrivals.ConstantRate.{ConstantRate}
 use Rattle.ld_plan.specs.declared.users.Users.{Users}
 
--- what is owned of a scenario, as the machine has it; and of the whole test how many items there are, when its arrivals
--- are due, and how its items are striped
+-- what is owned of a scenario, as the machine has it; and of the whole test how many items there are, and when its
+-- arrivals are due, where it has arrivals
 pub record OwnedView : Type 0 where
   pub executor : machine.Executor
   pub whole_items : ℕ
-  pub timetable : Timetable
-  pub owners : List ℕ
+  pub timetable : Option Timetable
 
--- the owned arrivals of this item are due at this moment, counted from the scenario's begin
-pub record AreDueAt (owned : OwnedView) (item moment : ℕ) : Type 0 where
-  pub due : (a : Arrival) → Contains (executor_arrivals owned.executor) a → a.item ≡ item → moment ≡ a.moment
+-- what is owned of items that are not arrivals, and how many of them the whole test has
+pub record ItemsView : Type 0 where
+  pub executor : machine.Executor
+  pub whole_items : ℕ
+
+abbrev pub view_of_items : ItemsView → OwnedView
+view_of_items owned = record { executor = owned.executor; whole_items = owned.whole_items; timetable = None }
+
+-- what is owned of arrivals, and when those of the whole test are due
+pub record ArrivalsView : Type 0 where
+  pub executor : machine.Executor
+  pub timetable : Timetable
+
+abbrev pub view_of_arrivals : ArrivalsView → OwnedView
+view_of_arrivals owned =
+    record { executor = owned.executor; whole_items = planned_count owned.timetable; timetable = Some owned.timetable }
+
+-- the arrivals of this item that an executor has are due at this moment, counted from the scenario's begin
+pub record AreDueAt (executor : machine.Executor) (item moment : ℕ) : Type 0 where
+  pub due : (a : Arrival) → Contains (executor_arrivals executor) a → a.item ≡ item → moment ≡ a.moment
 
 -- arrivals at a constant rate: when they are due, and the executor that says so with these numbers of users
 abbrev pub timetable_at : ConstantRate → Timetable
@@ -35,9 +51,8 @@ abbrev pub owned_of : Striping → Striping → ℕ → Executor → OwnedView
 owned_of striping items j executor =
     record {
       executor = owned_executor executor items.owners striping j;
-      whole_items = planned_count (timetable_of executor);
+      whole_items = whole_count executor;
       timetable = timetable_of executor;
-      owners = items.owners;
     }
 
 -- this is what position j owns of it: the items are striped by the shares that the positions have of its greatest number

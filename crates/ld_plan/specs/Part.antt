@@ -1,19 +1,20 @@
 -- How a part is seen.
-use Rattle.ld_plan.specs.OwnedItems.{OwnedView}
+use Rattle.ld_plan.specs.OwnedItems.{OwnedView, view_of_arrivals, view_of_items}
 use Rattle.ld_plan.specs.PartView.{PartView}
 use Rattle.ld_plan.specs.PlanView.{Whole}
 use Rattle.ld_plan.specs.declared.owned_items.OwnedItems.{OwnedItems}
-use Rattle.ld_plan.specs.declared.owned_items.OwnedItems.TheVariants.{Arrivals}
+use Rattle.ld_plan.specs.declared.owned_items.OwnedItems.TheVariants.{Arrivals, Iterations, Slots}
 use Rattle.ld_plan.specs.declared.part.Part.TheInside.{Inside}
 
 -- what is owned of a scenario, whichever its executor is
 abbrev pub owned_view : OwnedItems → OwnedView
-owned_view (Arrivals owned) = owned
+owned_view (Iterations owned) = view_of_items owned
+owned_view (Slots owned) = view_of_items owned
+owned_view (Arrivals owned) = view_of_arrivals owned
 
 -- the scenario of the whole test
 abbrev pub whole_view : Inside → Whole
-whole_view p =
-    record { name = p.name; timetable = (owned_view p.owned).timetable; owners = (owned_view p.owned).owners }
+whole_view p = record { name = p.name; timetable = (owned_view p.owned).timetable }
 
 abbrev pub part_view : Inside → PartView
 part_view p =

@@ -1,5 +1,5 @@
 -- When a plan is refused, in the order in which it is looked at.
-use Rattle.std.specs.Prelude.{◌≡◌, ◌<◌, ◌≤◌, ◌+◌, ◌*◌, ◌-◌, ◌^◌, ℕ, List, IsSomeAnd, Some, length, min, slice_get, sum_by, take}
+use Rattle.std.specs.Prelude.{◌≡◌, ◌<◌, ◌≤◌, ◌+◌, ◌*◌, ◌-◌, ◌^◌, ℕ, List, IsSomeAnd, Option, Some, length, min, slice_get, sum_by, take}
 use Rattle.std.specs.List.{AllByRecursion}
 use Rattle.ld_num.specs.declared.fraction.Frac.{Frac}
 use Rattle.ld_segment.specs.Refusal.{ends}
@@ -8,7 +8,7 @@ use Rattle.ld_segment.specs.Weights.{HasPeriod, IsPeriodRefusal, greatest_period
 use Rattle.ld_segment.specs.declared.fault.SegmentFault.TheVariants as segments
 use Rattle.ld_segment.specs.declared.segment.Segment.{Segment}
 use Rattle.ld_arrival.specs.Limits.{most_arrivals}
-use Rattle.ld_arrival.specs.Timetable.{Timetable, planned_count}
+use Rattle.ld_arrival.specs.Timetable.{Timetable}
 use Rattle.ld_machine.specs.Plan.{Part, owned_items}
 use Rattle.ld_machine.specs.Requirement.{IsRequirement}
 use Rattle.ld_options.specs.Ranges.{most_users}
@@ -17,6 +17,7 @@ use Rattle.ld_options.specs.declared.scenario.Scenario.{Scenario}
 use Rattle.ld_plan.specs.Executor.{timetable_of}
 use Rattle.ld_plan.specs.IsPlanOf.{AreOwned, AreParts, whole_striping}
 use Rattle.ld_plan.specs.PartView.{PartView, parts_of}
+use Rattle.ld_plan.specs.PlanView.{arrival_count}
 use Rattle.ld_plan.specs.declared.fault.PlanFault.{PlanFault}
 use Rattle.ld_plan.specs.declared.fault.PlanFault.TheVariants.{NotInSequence, PeriodTooLarge, TooManyArrivals, TooManyUsers, JournalTooSmall, Memory}
 
@@ -41,15 +42,15 @@ IsLongPeriod sequence Memory = ⊥
 
 -- there are few enough arrivals of each scenario
 abbrev pub AreFew : List Scenario → Type 0
-AreFew scenarios = AllByRecursion (λ s. planned_count (timetable_of s.executor) ≤ most_arrivals) scenarios
+AreFew scenarios = AllByRecursion (λ s. arrival_count (timetable_of s.executor) ≤ most_arrivals) scenarios
 
 -- a timetable plans more arrivals, and the number that is told is theirs, or 2^64 - 1 where that is less
-pub record HasTooMany (timetable : Timetable) (told : ℕ) : Type 0 where
-  pub many : most_arrivals < planned_count timetable
-  pub number : told ≡ min (planned_count timetable) (2 ^ 64 - 1)
+pub record HasTooMany (timetable : Option Timetable) (told : ℕ) : Type 0 where
+  pub many : most_arrivals < arrival_count timetable
+  pub number : told ≡ min (arrival_count timetable) (2 ^ 64 - 1)
 
 -- the fault says that the scenario of this number, whose timetable this is, has too many
-abbrev pub IsManyOf : Timetable → ℕ → PlanFault → Type 0
+abbrev pub IsManyOf : Option Timetable → ℕ → PlanFault → Type 0
 IsManyOf timetable n (TooManyArrivals scenario told) = (scenario ≡ n) × HasTooMany timetable told
 IsManyOf timetable n NotInSequence = ⊥
 IsManyOf timetable n (PeriodTooLarge told) = ⊥

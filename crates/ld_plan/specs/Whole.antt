@@ -5,7 +5,7 @@ use Rattle.std.specs.Option.{option_map_or}
 use Rattle.ld_num.specs.declared.fraction.Frac.{Frac}
 use Rattle.ld_segment.specs.Segments.{segments_of}
 use Rattle.ld_segment.specs.declared.segment.Segment.{Segment}
-use Rattle.ld_machine.specs.Plan.{Arrival, Part}
+use Rattle.ld_machine.specs.Plan.{Arrival, Part, owned_items, owned_slots}
 use Rattle.ld_machine.specs.Scenario.{executor_arrivals}
 use Rattle.ld_options.specs.declared.options.Options.{Options}
 use Rattle.ld_plan.specs.IsPlanOf.{IsPlanOf}
@@ -17,7 +17,13 @@ pub record AreAllPlans (options : Options) (sequence : List Frac) (plans : List 
   pub positions : map (λ (seen : PlanView). seen.position) plans ≡ range_with_len 0 (length (segments_of sequence))
   pub each : AllByRecursion (λ seen. (segment : Segment) × (entries : ℕ) × IsPlanOf options segment sequence entries seen) plans
 
--- the arrivals that a plan has of scenario n
+-- the items that a plan has of scenario n, its slots, and its arrivals
+abbrev pub items_at : ℕ → PlanView → List ℕ
+items_at n seen = option_map_or (λ (part : Part). owned_items part.executor) (slice_get seen.plan.parts n) []
+
+abbrev pub slots_at : ℕ → PlanView → List ℕ
+slots_at n seen = option_map_or (λ (part : Part). owned_slots part.executor) (slice_get seen.plan.parts n) []
+
 abbrev pub arrivals_at : ℕ → PlanView → List Arrival
 arrivals_at n seen = option_map_or (λ (part : Part). executor_arrivals part.executor) (slice_get seen.plan.parts n) []
 

@@ -1,22 +1,21 @@
 // The laws of plans.
 ghost use Rattle.std.specs.Prelude.{◌≡◌, ◌≤◌, ◌⊎◌, ◌∷◌, [], ℕ, List, Some, false, IsPermutation, map, slice_get, sum_by};
-ghost use Rattle.std.specs.List.{flat_map};
+ghost use Rattle.std.specs.List.{flat_map, range_with_len};
 ghost use Rattle.ld_num.specs.declared.fraction.Frac.{Frac};
 ghost use Rattle.ld_segment.specs.Segments.{one_point, zero_point};
 ghost use Rattle.ld_segment.specs.declared.segment.Segment.{Segment};
 ghost use Rattle.ld_stripe.specs.Striping.{IsStripingOf, shares_at};
-ghost use Rattle.ld_arrival.specs.Schedule.{schedule};
 ghost use Rattle.ld_machine.specs.Plan.{Part, is_external};
 ghost use Rattle.ld_machine.specs.Requirement.{extra, need};
 ghost use Rattle.ld_machine.specs.State.{opening_controls};
 ghost use Rattle.ld_options.specs.declared.options.Options.{Options};
 ghost use Rattle.ld_options.specs.declared.scenario.Scenario.{Scenario};
-ghost use Rattle.ld_plan.specs.Executor.{max_of, pre_of, timetable_of};
+ghost use Rattle.ld_plan.specs.Executor.{max_of, pre_of, slot_count, timetable_of, whole_count};
 ghost use Rattle.ld_plan.specs.IsPlanOf.{IsPlanOf, IsSequenceStriping, IsSound, whole_striping};
 ghost use Rattle.ld_plan.specs.Plan.{IsMade};
 ghost use Rattle.ld_plan.specs.PlanFault.{IsAccepted, IsRefusal};
-ghost use Rattle.ld_plan.specs.PlanView.{PlanView, arrival_of};
-ghost use Rattle.ld_plan.specs.Whole.{AreAllPlans, arrivals_at, most_users_at, users_at};
+ghost use Rattle.ld_plan.specs.PlanView.{PlanView, arrival_of, schedule_of};
+ghost use Rattle.ld_plan.specs.Whole.{AreAllPlans, arrivals_at, items_at, most_users_at, slots_at, users_at};
 ghost use Rattle.ld_plan.specs.declared.fault.PlanFault.{PlanFault};
 
 /// A segment of a test either has a plan or is refused.
@@ -46,12 +45,23 @@ pub fn one_position()
     ensures rescaled { (v : ℕ) → 1 ≤ v → IsStripingOf (shares_at whole_striping v) whole_striping }
 {}
 
-/// Each arrival of a scenario is owned by exactly one position: what all positions of a sequence own of
-/// it is the whole's schedule, each arrival once.
+/// Each item of a scenario is owned by exactly one position: all positions of a sequence own each of the
+/// whole's items once, and where it has arrivals the whole's schedule, each arrival once.
 pub fn items_owned_once()
+    ensures arrivals { (options : Options) (sequence : List Frac) (plans : List PlanView) → IsSound options sequence →
+        AreAllPlans options sequence plans → (n : ℕ) (scenario : Scenario) → slice_get options.scenarios n ≡ Some scenario →
+        IsPermutation (map arrival_of (schedule_of (timetable_of scenario.executor))) (flat_map (arrivals_at n) plans) }
+    ensures items { (options : Options) (sequence : List Frac) (plans : List PlanView) → IsSound options sequence →
+        AreAllPlans options sequence plans → (n : ℕ) (scenario : Scenario) → slice_get options.scenarios n ≡ Some scenario →
+        IsPermutation (range_with_len 0 (whole_count scenario.executor)) (flat_map (items_at n) plans) }
+{}
+
+/// Each slot of a scenario is owned by exactly one position: all positions of a sequence own each of the
+/// whole's slots once.
+pub fn slots_owned_once()
     ensures { (options : Options) (sequence : List Frac) (plans : List PlanView) → IsSound options sequence →
         AreAllPlans options sequence plans → (n : ℕ) (scenario : Scenario) → slice_get options.scenarios n ≡ Some scenario →
-        IsPermutation (map arrival_of (schedule (timetable_of scenario.executor))) (flat_map (arrivals_at n) plans) }
+        IsPermutation (range_with_len 0 (slot_count scenario.executor)) (flat_map (slots_at n) plans) }
 {}
 
 /// Each user of a scenario is owned by exactly one position: the users that all positions of a sequence

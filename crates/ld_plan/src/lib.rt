@@ -8,7 +8,9 @@ mod need;
 mod owned;
 mod owned_arrivals;
 mod owned_items;
+mod owned_iterations;
 mod owned_part;
+mod owned_slots;
 mod part;
 mod plan;
 mod row;
@@ -18,7 +20,7 @@ mod users;
 pub use fault::PlanFault;
 pub use laws::{
     accepted_or_refused, items_owned_once, no_external, one_plan, one_position, one_refusal,
-    requirement_owned_once, users_owned_once,
+    requirement_owned_once, slots_owned_once, users_owned_once,
 };
 pub use owned_part::OwnedPart;
 pub use plan::Plan;

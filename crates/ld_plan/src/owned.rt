@@ -1,7 +1,6 @@
 // What a segment of a sequence owns of a test.
-ghost use Rattle.std.specs.Prelude.{◌≡◌, ◌≢◌, ◌<◌, ◌≤◌, length, sum, IfErr, IfOk, OnOk};
+ghost use Rattle.std.specs.Prelude.{◌≡◌, ◌≢◌, ◌<◌, ◌≤◌, length, IfErr, IfOk, OnOk};
 ghost use Rattle.ld_segment.specs.Points.{IsFilled};
-ghost use Rattle.ld_stripe.specs.Striping.{IsStriping};
 ghost use Rattle.ld_options.specs.Ranges.{AreInRange, most_scenarios};
 ghost use Rattle.ld_options.specs.declared.options.Options.{Options};
 ghost use Rattle.ld_plan.specs.IsPlanOf.{sample_room, AreOwned};
@@ -72,8 +71,6 @@ fn owned_parts(
     positions: &Stripe,
     position: usize,
 ) -> Result<Vec<Part>, PlanFault>
-    requires striping { IsStriping positions.now.weights positions.now.owners }
-    requires some { 0 < sum positions.now.weights }
     requires inside { position < length positions.now.weights }
     ensures owned { IfOk result (λ parts. AreOwned options.now positions.now position parts.items) }
     ensures few { IfOk result (λ _. AreFew options.now.scenarios) }

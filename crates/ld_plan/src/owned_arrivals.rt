@@ -1,5 +1,5 @@
 // What a position owns of a scenario of arrivals.
-ghost use Rattle.std.specs.Prelude.{◌≡◌, ◌≢◌, ◌≤◌, IfErr, IfOk};
+ghost use Rattle.std.specs.Prelude.{◌≡◌, ◌≢◌, ◌≤◌, IfErr, IfOk, Some};
 ghost use Rattle.ld_arrival.specs.Limits.{IsWithinLimits, most_arrivals};
 ghost use Rattle.ld_arrival.specs.Timetable.{planned_count};
 ghost use Rattle.ld_plan.specs.OwnedItems.{timetable_at};
@@ -8,7 +8,7 @@ ghost use Rattle.ld_plan.specs.declared.fault.PlanFault.TheVariants.{Memory};
 
 use crate::fault::PlanFault;
 use crate::owned_part::OwnedPart;
-use crate::striping::{of_items, share_of};
+use crate::striping::{copy_of, of_items, share_of};
 use crate::users::Users;
 use ld_arrival::{ArrivalFault, Arrivals, Ticker};
 use ld_stripe::Stripe;
@@ -24,23 +24,21 @@ pub struct ConstantRate {
 }
 
 // What a position owns of a scenario of arrivals: so many users before the begin and so many at most, and of the arrivals
-// those that the stripe gives to it. Of the whole test the rate and the greatest number of users are kept, so that the
-// arrivals and the stripe can be made again.
+// those that the stripe gives to it. Of the whole test the rate is kept, so that the arrivals can be made again.
 #[derive(Drop)]
 pub struct OwnedArrivals {
     pre: u32,
     max: u32,
     position: usize,
     rate: ConstantRate,
-    most: u32,
     arrivals: Arrivals,
     items: Stripe,
 }
 
 impl Model for OwnedArrivals {
-    ghost use Rattle.ld_plan.specs.OwnedItems.{OwnedView};
+    ghost use Rattle.ld_plan.specs.OwnedItems.{ArrivalsView};
 
-    ghost Value = { OwnedView };
+    ghost Value = { ArrivalsView };
 
     ghost use Rattle.ld_plan.specs.OwnedArrivals.{arrivals_view, AreOwnedArrivals};
 
@@ -50,16 +48,15 @@ impl Model for OwnedArrivals {
 }
 
 impl OwnedArrivals {
-    ghost use Rattle.std.specs.Prelude.{◌≡◌, ◌≢◌, ◌<◌, ◌≤◌, ◌↔◌, ℕ, IsTrue, IfOk, IfErr, Contains, length, map, sum};
-    ghost use Rattle.ld_stripe.specs.Striping.{IsStriping};
+    ghost use Rattle.std.specs.Prelude.{◌≡◌, ◌≢◌, ◌<◌, ◌≤◌, ◌↔◌, ℕ, IsTrue, IfOk, IfErr, Some, Contains, length, map};
     ghost use Rattle.ld_arrival.specs.Limits.{most_arrivals};
     ghost use Rattle.ld_arrival.specs.Timetable.{moment_of, planned_count};
     ghost use Rattle.ld_machine.specs.Plan.{owned_items};
     ghost use Rattle.ld_machine.specs.Requirement.{most_owned_users, owned_users};
     ghost use Rattle.ld_machine.specs.Scenario.{executor_arrivals};
     ghost use Rattle.ld_options.specs.Ranges.{IsInRange};
-    ghost use Rattle.ld_plan.specs.OwnedItems.{AreDueAt, IsOwnedOf, constant_arrivals, timetable_at};
-    ghost use Rattle.ld_plan.specs.OwnedPart.{executor_of};
+    ghost use Rattle.ld_plan.specs.OwnedItems.{AreDueAt, IsOwnedOf, constant_arrivals, timetable_at, view_of_arrivals};
+    ghost use Rattle.ld_plan.specs.OwnedPart.{IsSmallPart, executor_of};
     ghost use Rattle.ld_plan.specs.PlanFault.{IsManyOf};
     ghost use Rattle.ld_plan.specs.PlanView.{arrival_of};
     ghost use Rattle.ld_plan.specs.declared.fault.PlanFault.TheVariants.{Memory};
@@ -75,12 +72,11 @@ impl OwnedArrivals {
         position: usize,
     ) -> Result<OwnedArrivals, PlanFault>
         requires in_range { IsInRange (constant_arrivals rate users) }
-        requires striping { IsStriping positions.now.weights positions.now.owners }
-        requires some { 0 < sum positions.now.weights }
         requires inside { position < length positions.now.weights }
-        ensures owned { IfOk result (IsOwnedOf positions.now position (constant_arrivals rate users)) }
+        ensures owned { IfOk result (λ owned.
+            IsOwnedOf positions.now position (constant_arrivals rate users) (view_of_arrivals owned)) }
         ensures few { IfOk result (λ _. planned_count (timetable_at rate) ≤ most_arrivals) }
-        ensures refused { IfErr result (λ f. f ≢ Memory → IsManyOf (timetable_at rate) number f) }
+        ensures refused { IfErr result (λ f. f ≢ Memory → IsManyOf (Some (timetable_at rate)) number f) }
     {
         let arrivals = arrivals_of(alloc, rate, number)?;
         let items = of_items(alloc, positions, users.limit)?;
@@ -89,7 +85,6 @@ impl OwnedArrivals {
             max: share_of(positions, position, users.limit),
             position,
             rate,
-            most: users.limit,
             arrivals,
             items,
         })
@@ -97,7 +92,7 @@ impl OwnedArrivals {
 
     // How many arrivals the whole test has.
     pub fn whole_items(&self) -> u64
-        ensures items { result ≡ self.now.whole_items }
+        ensures items { result ≡ planned_count self.now.timetable }
         ensures few { result ≤ most_arrivals }
     {
         self.arrivals.count()
@@ -113,7 +108,7 @@ impl OwnedArrivals {
 
     // Whether the position owns this arrival.
     pub fn owns(&self, item: u64) -> bool
-        requires { item < self.now.whole_items }
+        requires { item < planned_count self.now.timetable }
         ensures { IsTrue result ↔ Contains (owned_items self.now.executor) item }
     {
         self.items.owner(item) == self.position
@@ -121,9 +116,9 @@ impl OwnedArrivals {
 
     // The moment at which an arrival is due, in nanoseconds from the scenario's begin.
     pub fn moment(&self, item: u64) -> u64
-        requires { item < self.now.whole_items }
+        requires { item < planned_count self.now.timetable }
         ensures moment { result ≡ moment_of self.now.timetable item }
-        ensures due { AreDueAt self.now item result }
+        ensures due { AreDueAt self.now.executor item result }
     {
         self.arrivals.moment(item)
     }
@@ -142,6 +137,7 @@ impl OwnedArrivals {
     // The same for who plays them.
     pub fn part(&self, alloc: Global) -> Result<OwnedPart, PlanFault>
         ensures owned { IfOk result (λ owned. executor_of owned ≡ self.now.executor) }
+        ensures small { IfOk result IsSmallPart }
         ensures memory { IfErr result (λ f. f ≡ Memory) }
     {
         let ticker = self.ticker(alloc)?;
@@ -160,7 +156,7 @@ impl OwnedArrivals {
         let Ok(arrivals) = arrivals_of(alloc, self.rate, 0) else {
             return Err(PlanFault::Memory);
         };
-        let items = of_items(alloc, &self.items, self.most)?;
+        let items = copy_of(alloc, &self.items)?;
         let Ok(ticker) = Ticker::new(alloc, arrivals, items, self.position) else {
             return Err(PlanFault::Memory);
         };
@@ -173,7 +169,7 @@ fn arrivals_of(alloc: Global, rate: ConstantRate, scenario: u16) -> Result<Arriv
     requires { IsWithinLimits (timetable_at rate) }
     ensures timetable { IfOk result (λ arrivals. arrivals ≡ timetable_at rate) }
     ensures few { IfOk result (λ _. planned_count (timetable_at rate) ≤ most_arrivals) }
-    ensures refused { IfErr result (λ f. f ≢ Memory → IsManyOf (timetable_at rate) scenario f) }
+    ensures refused { IfErr result (λ f. f ≢ Memory → IsManyOf (Some (timetable_at rate)) scenario f) }
 {
     match Arrivals::constant(alloc, rate.rate, rate.unit, rate.duration) {
         Ok(arrivals) => Ok(arrivals),

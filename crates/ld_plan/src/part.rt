@@ -34,19 +34,19 @@ impl Model for Part {
 }
 
 impl Part {
-    ghost use Rattle.std.specs.Prelude.{◌≡◌, ◌≢◌, ◌<◌, ◌≤◌, ◌↔◌, IsTrue, IfOk, IfErr, Contains, length, sum};
-    ghost use Rattle.ld_stripe.specs.Striping.{IsStriping};
+    ghost use Rattle.std.specs.Prelude.{◌≡◌, ◌≢◌, ◌<◌, ◌≤◌, ◌↔◌, IsTrue, IfOk, IfErr, IsSomeAnd, Contains, length};
     ghost use Rattle.ld_arrival.specs.Limits.{most_arrivals};
-    ghost use Rattle.ld_arrival.specs.Timetable.{moment_of, planned_count};
+    ghost use Rattle.ld_arrival.specs.Timetable.{moment_of};
     ghost use Rattle.ld_machine.specs.Moment.{moment_after};
     ghost use Rattle.ld_machine.specs.Plan.{Arrival, due_moment, owned_items};
     ghost use Rattle.ld_machine.specs.Scenario.{executor_arrivals};
-    ghost use Rattle.ld_options.specs.Ranges.{IsScenarioInRange};
+    ghost use Rattle.ld_options.specs.Ranges.{IsScenarioInRange, most_items};
     ghost use Rattle.ld_plan.specs.Executor.{timetable_of};
     ghost use Rattle.ld_plan.specs.IsPlanOf.{IsPartOf};
-    ghost use Rattle.ld_plan.specs.OwnedPart.{executor_of};
+    ghost use Rattle.ld_plan.specs.OwnedPart.{IsSmallPart, executor_of};
     ghost use Rattle.ld_plan.specs.PartView.{PartView};
     ghost use Rattle.ld_plan.specs.PlanFault.{IsManyOf};
+    ghost use Rattle.ld_plan.specs.PlanView.{arrival_count};
     ghost use Rattle.ld_plan.specs.Row.{row_of};
     ghost use Rattle.ld_plan.specs.declared.fault.PlanFault.TheVariants.{Memory};
 
@@ -61,11 +61,9 @@ impl Part {
         position: usize,
     ) -> Result<Part, PlanFault>
         requires in_range { IsScenarioInRange scenario.now }
-        requires striping { IsStriping positions.now.weights positions.now.owners }
-        requires some { 0 < sum positions.now.weights }
         requires inside { position < length positions.now.weights }
         ensures part { IfOk result (IsPartOf room positions.now position scenario.now) }
-        ensures few { IfOk result (λ _. planned_count (timetable_of scenario.now.executor) ≤ most_arrivals) }
+        ensures few { IfOk result (λ _. arrival_count (timetable_of scenario.now.executor) ≤ most_arrivals) }
         ensures refused { IfErr result (λ f. f ≢ Memory → IsManyOf (timetable_of scenario.now.executor) number f) }
     {
         let owned = OwnedItems::of(alloc, number, &scenario.executor, positions, position)?;
@@ -91,15 +89,23 @@ impl Part {
     // How many items the whole test has.
     pub fn whole_items(&self) -> u64
         ensures items { result ≡ self.now.part.whole_items }
-        ensures few { result ≤ most_arrivals }
+        ensures few { result ≤ most_items }
     {
         self.owned.whole_items()
+    }
+
+    // How many arrivals the whole test has.
+    pub fn arrivals(&self) -> u64
+        ensures arrivals { result ≡ arrival_count self.now.whole.timetable }
+        ensures few { result ≤ most_arrivals }
+    {
+        self.owned.arrivals()
     }
 
     // How many items the instance owns.
     pub fn owned(&self) -> u64
         ensures owned { result ≡ length (owned_items self.now.part.executor) }
-        ensures few { result ≤ most_arrivals }
+        ensures few { result ≤ most_items }
     {
         self.owned.owned()
     }
@@ -114,8 +120,9 @@ impl Part {
 
     // The moment at which an arrival is due, in nanoseconds from the run's start.
     pub fn moment(&self, item: u64) -> u64
-        requires { item < self.now.part.whole_items }
-        ensures moment { result ≡ moment_after self.now.part.begin (moment_of self.now.whole.timetable item) }
+        requires { item < arrival_count self.now.whole.timetable }
+        ensures moment { IsSomeAnd self.now.whole.timetable (λ timetable.
+            result ≡ moment_after self.now.part.begin (moment_of timetable item)) }
         ensures due { (a : Arrival) → Contains (executor_arrivals self.now.part.executor) a → a.item ≡ item →
             result ≡ due_moment self.now.part a }
     {
@@ -154,6 +161,7 @@ impl Part {
     // What is owned of its users and items, for who plays it.
     pub fn owned_part(&self, alloc: Global) -> Result<OwnedPart, PlanFault>
         ensures owned { IfOk result (λ owned. executor_of owned ≡ self.now.part.executor) }
+        ensures small { IfOk result IsSmallPart }
         ensures memory { IfErr result (λ f. f ≡ Memory) }
     {
         self.owned.part(alloc)

@@ -50,10 +50,11 @@ impl Plan {
     ghost use Rattle.ld_machine.specs.Settled.{is_distinct};
     ghost use Rattle.ld_machine.specs.Told.{users_fit};
     ghost use Rattle.ld_machine.specs.WellTimed.{WellTimed};
-    ghost use Rattle.ld_plan.specs.OwnedPart.{executor_of};
+    ghost use Rattle.ld_plan.specs.OwnedPart.{IsSmallPart, executor_of};
     ghost use Rattle.ld_plan.specs.Plan.{IsMade};
     ghost use Rattle.ld_plan.specs.PlanFault.{IsAccepted, IsRefusal};
-    ghost use Rattle.ld_options.specs.Ranges.{most_users};
+    ghost use Rattle.ld_plan.specs.PlanView.{arrival_count};
+    ghost use Rattle.ld_options.specs.Ranges.{most_items, most_users};
     ghost use Rattle.ld_plan.specs.IsPlanOf.{IsPlanOf};
     ghost use Rattle.ld_machine.specs.Requirement.{IsRequirement};
     ghost use Rattle.ld_machine.specs.ValidPlan.{IsValidPlan};
@@ -178,11 +179,20 @@ impl Plan {
         self.part(scenario).whole_items()
     }
 
+    /// How many arrivals of a scenario the whole test has: none where its executor has no arrivals.
+    pub fn arrivals(&self, scenario: u16) -> u64
+        requires { scenario < length self.now.plan.parts }
+        ensures arrivals { IsSomeAnd (slice_get self.now.wholes scenario) (λ whole. result ≡ arrival_count whole.timetable) }
+        ensures few { result ≤ most_arrivals }
+    {
+        self.part(scenario).arrivals()
+    }
+
     /// How many items of a scenario the instance owns.
     pub fn owned(&self, scenario: u16) -> u64
         requires { scenario < length self.now.plan.parts }
         ensures owned { IsSomeAnd (slice_get self.now.plan.parts scenario) (λ part. result ≡ length (owned_items part.executor)) }
-        ensures few { result ≤ most_arrivals }
+        ensures few { result ≤ most_items }
     {
         self.part(scenario).owned()
     }
@@ -198,10 +208,11 @@ impl Plan {
     /// The moment at which an arrival of a scenario is due, in nanoseconds from the run's start. The
     /// arrival is below the whole's number, and the instance need not own it.
     pub fn moment(&self, scenario: u16, item: u64) -> u64
-        requires { IsSomeAnd (slice_get self.now.plan.parts scenario) (λ part. item < part.whole_items) }
+        requires inside { scenario < length self.now.plan.parts }
+        requires below { IsSomeAnd (slice_get self.now.wholes scenario) (λ whole. item < arrival_count whole.timetable) }
         ensures moment { IsSomeAnd (slice_get self.now.plan.parts scenario) (λ part.
             IsSomeAnd (slice_get self.now.wholes scenario) (λ whole.
-            result ≡ moment_after part.begin (moment_of whole.timetable item))) }
+            IsSomeAnd whole.timetable (λ timetable. result ≡ moment_after part.begin (moment_of timetable item)))) }
         ensures due { IsSomeAnd (slice_get self.now.plan.parts scenario) (λ part.
             (a : Arrival) → Contains (executor_arrivals part.executor) a → a.item ≡ item → result ≡ due_moment part a) }
     {
@@ -232,8 +243,8 @@ impl Plan {
         self.part(scenario).sample_room()
     }
 
-    /// What the instance owns of a scenario, for who plays it: no more users at its begin than at most, and
-    /// distinct items.
+    /// What the instance owns of a scenario, for who plays it: no more users at its begin than at most,
+    /// distinct items, and of the whole test at most 400,000 items and 1,000 slots.
     ///
     /// Fails where there is no memory for it.
     pub fn owned_part(&self, alloc: Global, scenario: u16) -> Result<OwnedPart, PlanFault>
@@ -242,6 +253,7 @@ impl Plan {
             (λ part. executor_of owned ≡ part.executor)) }
         ensures users { IfOk result (λ owned. IsTrue (users_fit (executor_of owned))) }
         ensures distinct { IfOk result (λ owned. IsTrue (is_distinct (owned_items (executor_of owned)))) }
+        ensures small { IfOk result IsSmallPart }
         ensures memory { IfErr result (λ f. f ≡ Memory) }
     {
         self.part(scenario).owned_part(alloc)

@@ -76,6 +76,17 @@ pub fn of_items(alloc: Global, positions: &Stripe, max: u32) -> Result<Stripe, P
     Ok(rescaled)
 }
 
+// An equal striping.
+pub fn copy_of(alloc: Global, stripe: &Stripe) -> Result<Stripe, PlanFault>
+    ensures equal { IfOk result (λ s. s ≡ stripe.now) }
+    ensures memory { IfErr result (λ f. f ≡ Memory) }
+{
+    let Ok(copy) = stripe.copy(alloc) else {
+        return Err(PlanFault::Memory);
+    };
+    Ok(copy)
+}
+
 // How many of these users a position has.
 pub fn share_of(positions: &Stripe, position: usize, users: u32) -> u32
     requires { position < length positions.now.weights }

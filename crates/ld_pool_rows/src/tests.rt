@@ -1,6 +1,7 @@
 mod cores;
 mod desk;
 mod entries;
+mod iterations;
 mod journals;
 mod lines;
 mod lists;

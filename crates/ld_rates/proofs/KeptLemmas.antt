@@ -1,21 +1,22 @@
 -- What is kept of a scenario with arrivals, and what the machine says of it.
-use Rattle.std.proofs.Common.{◌≡◌, ◌≤◌, ℕ, Bool, true, false, cond, nat_lt, nat_le, List, [], ◌∷◌, ◌++◌, Option, None, Some, map, filter, find, slice_get, IsTrue, append-nil, refl, sym, ap, ap₂, ◌∙◌, subst, arith, rules, min}
+use Rattle.std.proofs.Common.{◌≡◌, ◌≤◌, ℕ, Bool, true, false, cond, nat_le, List, [], ◌∷◌, Option, None, Some, map, filter, find, slice_get, IsTrue, append-nil, refl, sym, ap, ◌∙◌, subst, rules}
 use Rattle.std.specs.Prelude.{option_map, is_some, option_to_list}
 use Rattle.std.specs.Option.{option_map_or}
 use Rattle.std.proofs.lemmas.Bool.{le-leb}
-use Rattle.std.proofs.lemmas.List.Elements.{filter-append}
 use Rattle.ld_machine.specs.Moment.{moment_after}
 use Rattle.ld_machine.specs.Plan.{Arrival, Executor, SharedIterations, PerVuIterations, ConstantVus, RampingVus, ArrivalRate, ExternallyControlled, Part, owned_items, due_moment}
 use Rattle.ld_machine.specs.State as machine
 use Rattle.ld_machine.specs.Scenario.{Scenario, first_of, is_open_item, least_open_item, has_open_item, executor_arrivals, executor_max_vus, least_open_arrival, runs, where_holds, is_due, due_arrival}
 use Rattle.ld_machine.specs.Settled.{is_distinct}
-use Rattle.ld_machine.specs.Together.{holds}
-use Rattle.ld_machine.specs.Told.{IsHeldInOrder}
-use Rattle.ld_machine.specs.Wait.{least_of, ramping_moments, scenario_moments}
+use Rattle.ld_machine.specs.Wait.{least_of, ramping_moments}
 use Rattle.ld_machine.specs.Wishes.{has_arrivals}
-use Rattle.ld_rates.specs.declared.level.Level.TheVariants.{Runs}
+use Rattle.ld_course.specs.Course.{IsOpening, own_moments}
+use Rattle.ld_course.specs.declared.course.Course.{Course}
+use Rattle.ld_course.proofs.IdleLemmas.{idle_of}
+use Rattle.ld_course.proofs.FirstLemmas.{first_here}
+use Rattle.ld_course.proofs.HeldLemmas.{opening_few, opening_order}
 use Rattle.ld_rates.specs.RatesView.{RatesView}
-use Rattle.ld_rates.specs.Shows.{Shows, kept_level, kept_pair, kept_of, open_arrivals, pre_allocated_of, arrival_of}
+use Rattle.ld_rates.specs.Shows.{Shows, kept_pair, kept_of, open_arrivals, pre_allocated_of, arrival_of}
 
 -- an executor with arrivals, by its numbers
 pub rates_executor : (e : Executor) → IsTrue (has_arrivals e) → e ≡ ArrivalRate (pre_allocated_of e) (executor_max_vus e) (executor_arrivals e)
@@ -37,10 +38,6 @@ first_mapped : {A B : Type 0} (f : A → B) (xs : List A) → slice_get (map f x
 first_mapped f [] = refl
 first_mapped f (x ∷ xs) = refl
 
-first_here : {A : Type 0} (xs : List A) → first_of xs ≡ slice_get xs 0
-first_here [] = refl
-first_here (x ∷ xs) = refl
-
 filter_mapped : {A B : Type 0} (p : B → Bool) (f : A → B) (xs : List A) → filter p (map f xs) ≡ map f (filter (λ x. p (f x)) xs)
 filter_mapped p f [] = refl
 filter_mapped p f (x ∷ xs) =
@@ -48,7 +45,7 @@ filter_mapped p f (x ∷ xs) =
     elim (p (f x)) as P [ true ↦ ap (λ more. f x ∷ more) (filter_mapped p f xs) | false ↦ filter_mapped p f xs ]
 
 -- the next arrival that is kept is the least open one
-pub next_kept : (s : Scenario) → slice_get (kept_of s).waiting 0 ≡ option_map kept_pair (least_open_arrival s)
+next_kept : (s : Scenario) → slice_get (kept_of s).waiting 0 ≡ option_map kept_pair (least_open_arrival s)
 next_kept s =
     first_mapped kept_pair (open_arrivals s)
     ∙ ap (option_map kept_pair) (first_kept (λ (a : Arrival). is_open_item s a.item) (executor_arrivals s.part.executor))
@@ -67,7 +64,7 @@ item_of_rates s (ArrivalRate pre most arrivals) h =
     ∙ first_mapped (λ (a : Arrival). a.item) (filter (λ (a : Arrival). is_open_item s a.item) arrivals)
     ∙ ap (option_map (λ (a : Arrival). a.item)) (first_kept (λ (a : Arrival). is_open_item s a.item) arrivals)
 
-pub item_of_least : (s : Scenario) → IsTrue (has_arrivals s.part.executor) → least_open_item s ≡ option_map (λ (a : Arrival). a.item) (least_open_arrival s)
+item_of_least : (s : Scenario) → IsTrue (has_arrivals s.part.executor) → least_open_item s ≡ option_map (λ (a : Arrival). a.item) (least_open_arrival s)
 item_of_least s h = item_of_rates s s.part.executor h
 
 items_of_pairs : (o : Option Arrival) → option_map (λ (pair : ℕ × ℕ). pair.0) (option_map kept_pair o) ≡ option_map (λ (a : Arrival). a.item) o
@@ -81,7 +78,7 @@ next_item_kept s h =
     ap (option_map (λ (pair : ℕ × ℕ). pair.0)) (next_kept s) ∙ items_of_pairs (least_open_arrival s) ∙ sym (item_of_least s h)
 
 -- a due arrival is the next one that is kept, once its moment has come
-pub due_kept : (s : Scenario) (t : ℕ) (pair : ℕ × ℕ) → runs s ≡ true → slice_get (kept_of s).waiting 0 ≡ Some pair →
+due_kept : (s : Scenario) (t : ℕ) (pair : ℕ × ℕ) → runs s ≡ true → slice_get (kept_of s).waiting 0 ≡ Some pair →
     option_map kept_pair (due_arrival s t) ≡ where_holds (nat_le (moment_after s.part.begin pair.1) t) (Some pair)
 due_kept s t pair running next =
     let P : Option Arrival → Type 0 = λ o. option_map kept_pair o ≡ Some pair →
@@ -96,7 +93,7 @@ due_kept s t pair running next =
     ] in
     rw running (from (sym (next_kept s) ∙ next))
 
-pub due_none : (s : Scenario) (t : ℕ) → slice_get (kept_of s).waiting 0 ≡ None → option_map kept_pair (due_arrival s t) ≡ None
+due_none : (s : Scenario) (t : ℕ) → slice_get (kept_of s).waiting 0 ≡ None → option_map kept_pair (due_arrival s t) ≡ None
 due_none s t next =
     let P : Option Arrival → Type 0 = λ o. option_map kept_pair o ≡ None →
     option_map kept_pair (find (is_due s t) (option_map_or (λ a. a ∷ []) (where_holds (runs s) o) [])) ≡ None in
@@ -107,7 +104,7 @@ due_none s t next =
       | Some a ↦ λ e. absurd (cc)
     ] in from (sym (next_kept s) ∙ next)
 
-pub due_not_running : (s : Scenario) (t : ℕ) → runs s ≡ false → option_map kept_pair (due_arrival s t) ≡ None
+due_not_running : (s : Scenario) (t : ℕ) → runs s ≡ false → option_map kept_pair (due_arrival s t) ≡ None
 due_not_running s t h = rw h refl
 
 -- ---- the arrival that is to be answered, by what a state keeps
@@ -116,9 +113,9 @@ next_of : (v : RatesView) (s : Scenario) (o : Option (ℕ × ℕ)) → Shows v s
 next_of v s o shows next = ap (λ (w : RatesView). slice_get w.waiting 0) (sym shows.kept) ∙ next
 
 pub due_shown : (v : RatesView) (s : Scenario) (t : ℕ) (pair : ℕ × ℕ) → Shows v s → runs s ≡ true → slice_get v.waiting 0 ≡ Some pair →
-    where_holds (nat_le (moment_after v.begin pair.1) t) (Some pair) ≡ option_map kept_pair (due_arrival s t)
+    where_holds (nat_le (moment_after v.course.begin pair.1) t) (Some pair) ≡ option_map kept_pair (due_arrival s t)
 due_shown v s t pair shows running next =
-    let begins : v.begin ≡ s.part.begin = ap (λ (w : RatesView). w.begin) shows.kept in
+    let begins : v.course.begin ≡ s.part.begin = ap (λ (w : RatesView). w.course.begin) shows.kept in
     rw begins (sym (due_kept s t pair running (next_of v s (Some pair) shows next)))
 
 pub none_due : (v : RatesView) (s : Scenario) (t : ℕ) → Shows v s → slice_get v.waiting 0 ≡ None → None ≡ option_map kept_pair (due_arrival s t)
@@ -140,10 +137,10 @@ open_shown v s shows =
 -- ---- candidates
 
 -- when the next arrival is due
-pub due_moment_shown : (v : RatesView) (s : Scenario) → Shows v s →
-    option_map (due_moment s.part) (least_open_arrival s) ≡ option_map (λ (pair : ℕ × ℕ). moment_after v.begin pair.1) (slice_get v.waiting 0)
+due_moment_shown : (v : RatesView) (s : Scenario) → Shows v s →
+    option_map (due_moment s.part) (least_open_arrival s) ≡ option_map (λ (pair : ℕ × ℕ). moment_after v.course.begin pair.1) (slice_get v.waiting 0)
 due_moment_shown v s shows =
-    let begins : v.begin ≡ s.part.begin = ap (λ (w : RatesView). w.begin) shows.kept in
+    let begins : v.course.begin ≡ s.part.begin = ap (λ (w : RatesView). w.course.begin) shows.kept in
     let P : Option Arrival → Type 0 = λ o. option_map (due_moment s.part) o ≡ option_map (λ (pair : ℕ × ℕ). moment_after s.part.begin pair.1) (option_map kept_pair o) in
     let from : P (least_open_arrival s) = elim (least_open_arrival s) as P [ None ↦ refl | Some a ↦ refl ] in
     rw begins
@@ -151,24 +148,13 @@ due_moment_shown v s shows =
     ∙ ap (option_map (λ (pair : ℕ × ℕ). moment_after s.part.begin pair.1)) (sym (next_kept s))
     ∙ ap (λ (w : RatesView). option_map (λ (pair : ℕ × ℕ). moment_after s.part.begin pair.1) (slice_get w.waiting 0)) (sym shows.kept))
 
-least_again : (o : Option ℕ) → least_of (option_to_list o) ≡ o
+pub least_again : (o : Option ℕ) → least_of (option_to_list o) ≡ o
 least_again None = refl
 least_again (Some m) = refl
-
--- the least of some moments and the least of others
-pub least_joined : (xs ys : List ℕ) → least_of (xs ++ option_to_list (least_of ys)) ≡ least_of (xs ++ ys)
-least_joined [] ys = least_again (least_of ys)
-least_joined (x ∷ xs) ys = ap (λ (o : Option ℕ). Some (option_map_or (min x) o x)) (least_joined xs ys)
 
 -- how many users are held
 pub count_shown : (v : RatesView) (s : Scenario) → Shows v s → machine.held_count s.share ≡ v.held
 count_shown v s shows = ap (λ (w : RatesView). w.held) (sym shows.kept)
-
--- a state that keeps level `Runs` shows a scenario at that level
-runs_level : (level : machine.Level) → kept_level level ≡ Runs → level ≡ machine.Runs
-runs_level machine.Runs e = refl
-runs_level (machine.StartsNothing commanded) e = absurd (cc)
-runs_level machine.Halted e = absurd (cc)
 
 no_ramps : (e : Executor) (part : Part) → IsTrue (has_arrivals e) → ramping_moments e part ≡ []
 no_ramps (SharedIterations _ _) part h = refl
@@ -178,34 +164,11 @@ no_ramps (RampingVus _ _) part h = absurd (search rules)
 no_ramps (ArrivalRate _ _ _) part h = refl
 no_ramps (ExternallyControlled _ _ _) part h = refl
 
--- the moments of a scenario that runs
-moments_running : (s : Scenario) → IsTrue (has_arrivals s.part.executor) → s.share.closed ≡ false → s.share.level ≡ machine.Runs →
-    scenario_moments s ≡ s.part.begin ∷ s.part.end ∷ option_to_list (option_map (due_moment s.part) (least_open_arrival s))
-moments_running s rates stays level =
-    let dues = option_to_list (option_map (due_moment s.part) (least_open_arrival s)) in
-    let all : dues ++ [] ≡ dues = append-nil dues in
-    rw (stays, level, no_ramps s.part.executor s.part rates) (ap (λ (more : List ℕ). s.part.begin ∷ s.part.end ∷ more) all)
-
-three_filtered : (p : ℕ → Bool) (x y : ℕ) (zs : List ℕ) → filter p (x ∷ y ∷ zs) ≡ filter p (x ∷ []) ++ (filter p (y ∷ []) ++ filter p zs)
-three_filtered p x y zs = filter-append p (x ∷ []) (y ∷ zs) ∙ ap (λ (more : List ℕ). filter p (x ∷ []) ++ more) (filter-append p (y ∷ []) zs)
-
--- the least candidate of a scenario that runs
-pub candidate_running : (v : RatesView) (s : Scenario) (t : ℕ) (begins ends dues : Option ℕ) → Shows v s → v.closed ≡ false → v.level ≡ Runs →
-    option_to_list begins ≡ filter (nat_lt t) (v.begin ∷ []) → option_to_list ends ≡ filter (nat_lt t) (v.end ∷ []) →
-    option_to_list dues ≡ filter (nat_lt t) (option_to_list (option_map (due_moment s.part) (least_open_arrival s))) →
-    least_of (option_to_list begins ++ option_to_list (least_of (option_to_list ends ++ option_to_list dues))) ≡ least_of (filter (nat_lt t) (scenario_moments s))
-candidate_running v s t begins ends dues shows stays level b e d =
-    let begin : v.begin ≡ s.part.begin = ap (λ (w : RatesView). w.begin) shows.kept in
-    let end : v.end ≡ s.part.end = ap (λ (w : RatesView). w.end) shows.kept in
-    let closed : s.share.closed ≡ false = ap (λ (w : RatesView). w.closed) (sym shows.kept) ∙ stays in
-    let at : s.share.level ≡ machine.Runs = runs_level s.share.level (ap (λ (w : RatesView). w.level) (sym shows.kept) ∙ level) in
-    let rest = option_to_list (option_map (due_moment s.part) (least_open_arrival s)) in
-    least_joined (option_to_list begins) (option_to_list ends ++ option_to_list dues)
-    ∙ ap least_of
-    (ap₂ (λ (x y : List ℕ). x ++ y) (b ∙ ap (λ (m : ℕ). filter (nat_lt t) (m ∷ [])) begin)
-    (ap₂ (λ (x y : List ℕ). x ++ y) (e ∙ ap (λ (m : ℕ). filter (nat_lt t) (m ∷ [])) end) d)
-    ∙ sym (three_filtered (nat_lt t) s.part.begin s.part.end rest)
-    ∙ ap (filter (nat_lt t)) (sym (moments_running s shows.rates closed at)))
+-- the moments that a scenario has of its own: when the next arrival is due
+pub own_moments_shown : (v : RatesView) (s : Scenario) → Shows v s →
+    own_moments s ≡ option_to_list (option_map (λ (pair : ℕ × ℕ). moment_after v.course.begin pair.1) (slice_get v.waiting 0))
+own_moments_shown v s shows =
+    rw (no_ramps s.part.executor s.part shows.rates) (append-nil _ ∙ ap option_to_list (due_moment_shown v s shows))
 
 -- ---- the opening
 
@@ -214,34 +177,22 @@ all_open [] = refl
 all_open (pair ∷ rest) = ap (λ (more : List (ℕ × ℕ)). pair ∷ more) (all_open rest)
 
 -- what is kept at the opening
-abbrev opening_kept : ℕ → ℕ → ℕ → ℕ → ℕ → List (ℕ × ℕ) → RatesView
-opening_kept begin end grace pre most pairs =
+abbrev opening_kept : Course → ℕ → ℕ → List (ℕ × ℕ) → RatesView
+opening_kept course pre most pairs = record { course = course; pre = pre; max = most; waiting = pairs; idle = []; held = 0 }
+
+pub opening_shown : (begin end grace pre most : ℕ) (course : Course) (pairs : List (ℕ × ℕ)) (s : Scenario) → IsOpening begin end grace course → pre ≤ most →
+    s.share ≡ machine.opening_share → s.part.begin ≡ begin → s.part.end ≡ end → s.part.grace ≡ grace →
+    s.part.executor ≡ ArrivalRate pre most (map arrival_of pairs) → IsTrue (is_distinct (owned_items s.part.executor)) →
+    Shows (opening_kept course pre most pairs) s
+opening_shown begin end grace pre most course pairs s opens within share b e g how distinct =
+    let its_course = opens s b e g share in
+    let takes : pre ≡ pre_allocated_of s.part.executor = rw how refl in
+    let holds : most ≡ executor_max_vus s.part.executor = rw how refl in
+    let waiting : pairs ≡ map kept_pair (open_arrivals s) = rw (share, how) (sym (all_open pairs)) in
+    let idle : [] ≡ idle_of s.share = rw share refl in
+    let held : 0 ≡ machine.held_count s.share = rw share refl in
     record {
-      begin = begin;
-      end = end;
-      grace = grace;
-      pre = pre;
-      max = most;
-      waiting = pairs;
-      level = Runs;
-      closed = false;
-      idle = [];
-      held = 0;
-    }
-
--- at the opening nobody is held
-opening_few : (s : Scenario) → s.share ≡ machine.opening_share → (user : ℕ) → holds user s.share ≡ true → user ≤ 1000
-opening_few s share user held = absurd (let none : holds user s.share ≡ false = ap (holds user) share in cc)
-
-opening_order : (s : Scenario) → s.share ≡ machine.opening_share → IsHeldInOrder s
-opening_order s share = rw share (λ k below. absurd (omega arith))
-
-pub opening_shown : (begin end grace pre most : ℕ) (pairs : List (ℕ × ℕ)) (s : Scenario) → pre ≤ most → s.share ≡ machine.opening_share →
-    s.part.begin ≡ begin → s.part.end ≡ end → s.part.grace ≡ grace → s.part.executor ≡ ArrivalRate pre most (map arrival_of pairs) →
-    IsTrue (is_distinct (owned_items s.part.executor)) → Shows (opening_kept begin end grace pre most pairs) s
-opening_shown begin end grace pre most pairs s within share b e g how distinct =
-    record {
-      kept = rw (share, b, e, g, how) (ap (opening_kept begin end grace pre most) (sym (all_open pairs)));
+      kept = λ i. record { course = its_course i; pre = takes i; max = holds i; waiting = waiting i; idle = idle i; held = held i };
       rates = rw how (search rules);
       distinct = distinct;
       fits = rw how (le-leb pre most within);

@@ -1,7 +1,6 @@
 pub mod KeptLemmas
 pub mod FirstLemmas
 pub mod ShownLemmas
-pub mod IdleLemmas
 pub mod ApplyLemmas
 pub mod DistinctLemmas
 pub mod TellLemmas

@@ -1,18 +1,23 @@
 -- What a state wishes is what comes first of the scenario that it shows.
-use Rattle.std.proofs.Common.{◌≡◌, ℕ, Bool, true, false, cond, List, [], ◌∷◌, Option, None, Some, map, filter, flat_map, IsTrue, IfNone, refl, sym, ap, ◌∙◌, subst, rules}
+use Rattle.std.proofs.Common.{◌≡◌, ℕ, Bool, true, false, cond, List, [], ◌∷◌, Option, None, Some, IsTrue, IfNone, refl, sym, ap, ◌∙◌, subst, rules}
 use Rattle.std.specs.Prelude.{option_map, is_some}
 use Rattle.ld_base.specs.declared.wish.Wish.{Wish}
 use Rattle.ld_base.specs.declared.wish.Wish.TheVariants.{Nothing, Release, Take, More, Drop, Late, Close}
-use Rattle.ld_machine.specs.Plan.{Arrival, Executor, Part, due_moment, hard_moment}
+use Rattle.ld_machine.specs.Plan.{Arrival, Executor, SharedIterations, PerVuIterations, ConstantVus, RampingVus, ArrivalRate, ExternallyControlled, Part, due_moment, hard_moment}
 use Rattle.ld_machine.specs.State as machine
-use Rattle.ld_machine.specs.Scenario.{Scenario, first_of, has_ended, may_hold_more, may_release, slots_to_take, may_take, due_arrival, may_close, executor_arrivals, executor_max_vus}
-use Rattle.ld_machine.specs.Moves.{ReleaseUser, TakeUser, Users, releases, takes}
+use Rattle.ld_machine.specs.Scenario.{Scenario, first_of, has_ended, item_to_start, executor_item_to_start, executor_item_to_drop, may_hold_more, may_release, slots_to_take, may_take, due_arrival, may_close, executor_arrivals, executor_max_vus}
+use Rattle.ld_machine.specs.Moves.{Users, releases, takes}
 use Rattle.ld_machine.specs.Wishes.{has_arrivals, TellsFirst}
+use Rattle.ld_machine.proofs.ListLemmas.{In}
+use Rattle.ld_course.specs.Chosen.{chosen_of}
+use Rattle.ld_course.proofs.ChosenLemmas.{chosen_none}
+use Rattle.ld_course.proofs.FirstLemmas.{any_release_tells, take_one_tells, close_tells, nothing_tells, nobody_chosen}
+use Rattle.ld_course.proofs.IdleLemmas.{idle_of}
 use Rattle.ld_rates.specs.RatesView.{RatesView}
 use Rattle.ld_rates.specs.Shows.{Shows, kept_pair, kept_of, pre_allocated_of}
-use Rattle.ld_rates.specs.Answer.{chosen_of, answer_before_end, answer_of}
+use Rattle.ld_rates.specs.Answer.{answer_before_end, answer_of}
 use Rattle.ld_rates.proofs.KeptLemmas.{rates_executor, count_shown}
-use Rattle.ld_rates.proofs.FirstLemmas.{idle_of, at_rate, chosen_none, release_told, take_told, close_told, nothing_told, late_told, start_told, more_told, drop_told}
+use Rattle.ld_rates.proofs.FirstLemmas.{at_rate, late_told, start_told, more_told, drop_told}
 
 -- what holds of each scenario at an arrival rate
 pub of_rates : (P : Scenario → Type 0) (s : Scenario) → IsTrue (has_arrivals s.part.executor) →
@@ -22,38 +27,31 @@ of_rates P s rates holds =
     subst (λ (e : Executor). P (record s { part = record s.part { executor = e } })) (sym is)
     (holds s.part (pre_allocated_of s.part.executor) (executor_max_vus s.part.executor) (executor_arrivals s.part.executor) s.share s.controls)
 
--- ---- nobody is released or taken
+-- ---- what a scenario at an arrival rate doesn't do by itself
 
-none_kept : {A : Type 0} (p : A → Bool) (xs : List A) → ((x : A) → p x ≡ false) → filter p xs ≡ []
-none_kept p [] none = refl
-none_kept p (x ∷ xs) none = rw (none x) (none_kept p xs none)
+rates_slots : (s : Scenario) (e : Executor) → IsTrue (has_arrivals e) → slots_to_take e s ≡ machine.held_count s.share ∷ []
+rates_slots s (ArrivalRate _ _ _) h = refl
+rates_slots s (SharedIterations _ _) h = absurd (search rules)
+rates_slots s (PerVuIterations _ _) h = absurd (search rules)
+rates_slots s (ConstantVus _) h = absurd (search rules)
+rates_slots s (RampingVus _ _) h = absurd (search rules)
+rates_slots s (ExternallyControlled _ _ _) h = absurd (search rules)
 
-pub nobody_goes : (n : ℕ) (s : Scenario) (t : ℕ) → ((slot : ℕ) → may_release s slot t ≡ false) → releases n s t ≡ []
-nobody_goes n s t none =
-    ap (map (λ (h : machine.HeldUser). ReleaseUser n h.user)) (none_kept (λ (h : machine.HeldUser). may_release s h.slot t) (machine.idle_users s.share) (λ h. none h.slot))
+rates_start_none : (s : Scenario) (slot t : ℕ) (e : Executor) → IsTrue (has_arrivals e) → executor_item_to_start e s slot t ≡ None
+rates_start_none s slot t (ArrivalRate _ _ _) h = refl
+rates_start_none s slot t (SharedIterations _ _) h = absurd (search rules)
+rates_start_none s slot t (PerVuIterations _ _) h = absurd (search rules)
+rates_start_none s slot t (ConstantVus _) h = absurd (search rules)
+rates_start_none s slot t (RampingVus _ _) h = absurd (search rules)
+rates_start_none s slot t (ExternallyControlled _ _ _) h = absurd (search rules)
 
-pub nobody_idle : (n : ℕ) (s : Scenario) (t : ℕ) → idle_of s.share ≡ [] → releases n s t ≡ []
-nobody_idle n s t none =
-    let P : List machine.HeldUser → Type 0 = λ held. map (λ (h : machine.HeldUser). h.user) held ≡ [] →
-    map (λ (h : machine.HeldUser). ReleaseUser n h.user) (filter (λ (h : machine.HeldUser). may_release s h.slot t) held) ≡ [] in
-    let from : P (machine.idle_users s.share) = elim (machine.idle_users s.share) as P [ [] ↦ λ e. refl | h ∷ rest ↦ λ e. absurd (cc) ] in
-    from none
-
-pub nobody_taken : (n : ℕ) (s : Scenario) (users : Users) (t : ℕ) → ((slot : ℕ) → may_take s slot t ≡ false) → takes n s users t ≡ []
-nobody_taken n s users t none =
-    ap (flat_map (λ slot. map (λ user. TakeUser n user slot) users.free)) (none_kept (λ slot. may_take s slot t) (slots_to_take s.part.executor s) none)
-
-none_from : {A B : Type 0} (xs : List A) → flat_map {X = A} {A = B} (λ x. []) xs ≡ []
-none_from [] = refl
-none_from (x ∷ xs) = none_from xs
-
-no_free : (free : List ℕ) → is_some (first_of free) ≡ false → free ≡ []
-no_free [] h = refl
-no_free (x ∷ xs) h = absurd (cc)
-
-pub nobody_free : (n : ℕ) (s : Scenario) (users : Users) (t : ℕ) → is_some (first_of users.free) ≡ false → takes n s users t ≡ []
-nobody_free n s users t none =
-    rw (no_free users.free none) (none_from (filter (λ slot. may_take s slot t) (slots_to_take s.part.executor s)))
+rates_drop_none : (s : Scenario) (t : ℕ) (e : Executor) → IsTrue (has_arrivals e) → executor_item_to_drop e s t ≡ None
+rates_drop_none s t (ArrivalRate _ _ _) h = refl
+rates_drop_none s t (SharedIterations _ _) h = absurd (search rules)
+rates_drop_none s t (PerVuIterations _ _) h = absurd (search rules)
+rates_drop_none s t (ConstantVus _) h = absurd (search rules)
+rates_drop_none s t (RampingVus _ _) h = absurd (search rules)
+rates_drop_none s t (ExternallyControlled _ _ _) h = absurd (search rules)
 
 -- ---- the idle users
 
@@ -67,7 +65,7 @@ chosen_shown v s prefer shows = ap (chosen_of prefer) (idle_shown v s shows)
 -- where none is chosen nobody is released
 pub none_chosen : (v : RatesView) (s : Scenario) (prefer n t : ℕ) → Shows v s → chosen_of prefer v.idle ≡ None → releases n s t ≡ []
 none_chosen v s prefer n t shows none =
-    nobody_idle n s t (chosen_none prefer (idle_of s.share) (sym (chosen_shown v s prefer shows) ∙ none))
+    nobody_chosen n s t prefer (sym (chosen_shown v s prefer shows) ∙ none)
 
 pub none_goes : (v : RatesView) (prefer t : ℕ) (idle : Option ℕ) → idle ≡ chosen_of prefer v.idle →
     IfNone idle ((s : Scenario) (n : ℕ) → Shows v s → releases n s t ≡ [])
@@ -116,19 +114,14 @@ mapped_none f (Some x) e = absurd (cc)
 
 module _ (v : RatesView) (s : Scenario) (shows : Shows v s) (n : ℕ) (users : Users) (t prefer : ℕ) where
   pub release_shown : (user : ℕ) → chosen_of prefer v.idle ≡ Some user → ((slot : ℕ) → may_release s slot t ≡ true) → TellsFirst n users s t prefer (Release user)
-  release_shown user chosen may =
-      let P : Scenario → Type 0 = λ s. chosen_of prefer (idle_of s.share) ≡ Some user → ((slot : ℕ) → may_release s slot t ≡ true) → TellsFirst n users s t prefer (Release user) in
-      of_rates P s shows.rates (λ part pre most planned share controls. release_told part pre most planned share controls n users t prefer user)
-      (sym (chosen_shown v s prefer shows) ∙ chosen) may
+  release_shown user chosen may = any_release_tells n users s t prefer user (sym (chosen_shown v s prefer shows) ∙ chosen) may
 
   pub take_shown : (slot : ℕ) → slot ≡ v.held → releases n s t ≡ [] → may_take s slot t ≡ true → is_some (first_of users.free) ≡ true →
       TellsFirst n users s t prefer (Take slot)
   take_shown slot is none may free =
-      let count : machine.held_count s.share ≡ slot = count_shown v s shows ∙ sym is in
-      let P : Scenario → Type 0 = λ s. releases n s t ≡ [] → may_take s (machine.held_count s.share) t ≡ true → TellsFirst n users s t prefer (Take (machine.held_count s.share)) in
-      let told = of_rates P s shows.rates (λ part pre most planned share controls none may. take_told part pre most planned share controls n users t prefer none may free)
-      none (subst (λ (k : ℕ). may_take s k t ≡ true) (sym count) may) in
-      subst (λ (k : ℕ). TellsFirst n users s t prefer (Take k)) count told
+      let slots : slots_to_take s.part.executor s ≡ slot ∷ [] =
+      rates_slots s s.part.executor shows.rates ∙ ap (λ (k : ℕ). k ∷ []) (count_shown v s shows ∙ sym is) in
+      take_one_tells n users s t prefer none slot slots may free
 
   pub answer_shown : (pair : ℕ × ℕ) (idle : Option ℕ) (wish : Wish) → releases n s t ≡ [] → takes n s users t ≡ [] →
       Some pair ≡ option_map kept_pair (due_arrival s t) → idle ≡ chosen_of prefer v.idle → wish ≡ answer_of v pair idle t → TellsFirst n users s t prefer wish
@@ -143,14 +136,16 @@ module _ (v : RatesView) (s : Scenario) (shows : Shows v s) (n : ℕ) (users : U
       ∙ ap (λ (o : Option ℕ). answer_of (kept_of s) (kept_pair found.0) o t) chosen in
       subst (λ (w : Wish). TellsFirst n users s t prefer w) (sym same) told
 
+  nothing_starts : (h : machine.HeldUser) → In h (machine.idle_users s.share) → item_to_start s h.slot t ≡ None
+  nothing_starts h at = rates_start_none s h.slot t s.part.executor shows.rates
+
+  nothing_is_due : None ≡ option_map kept_pair (due_arrival s t) → due_arrival s t ≡ None
+  nothing_is_due none = mapped_none kept_pair (due_arrival s t) none
+
   pub close_shown : releases n s t ≡ [] → takes n s users t ≡ [] → None ≡ option_map kept_pair (due_arrival s t) → may_close s t ≡ true → TellsFirst n users s t prefer Close
   close_shown none no_take no_due may =
-      let P : Scenario → Type 0 = λ s. releases n s t ≡ [] → takes n s users t ≡ [] → due_arrival s t ≡ None → may_close s t ≡ true → TellsFirst n users s t prefer Close in
-      of_rates P s shows.rates (λ part pre most planned share controls. close_told part pre most planned share controls n users t prefer) none no_take
-      (mapped_none kept_pair (due_arrival s t) no_due) may
+      close_tells n users s t prefer none no_take (nothing_is_due no_due) nothing_starts (rates_drop_none s t s.part.executor shows.rates) may
 
   pub nothing_shown : releases n s t ≡ [] → takes n s users t ≡ [] → None ≡ option_map kept_pair (due_arrival s t) → may_close s t ≡ false → TellsFirst n users s t prefer Nothing
   nothing_shown none no_take no_due may =
-      let P : Scenario → Type 0 = λ s. releases n s t ≡ [] → takes n s users t ≡ [] → due_arrival s t ≡ None → may_close s t ≡ false → TellsFirst n users s t prefer Nothing in
-      of_rates P s shows.rates (λ part pre most planned share controls. nothing_told part pre most planned share controls n users t prefer) none no_take
-      (mapped_none kept_pair (due_arrival s t) no_due) may
+      nothing_tells n users s t prefer none no_take (nothing_is_due no_due) nothing_starts (rates_drop_none s t s.part.executor shows.rates) may

@@ -1,22 +1,17 @@
--- Which idle user is chosen, and how a due arrival is answered.
-use Rattle.std.specs.Prelude.{ℕ, nat_le, nat_lt, List, Option, None, Some, slice_get, if◌then◌else◌}
+-- How a due arrival is answered.
+use Rattle.std.specs.Prelude.{ℕ, nat_le, nat_lt, Option, None, Some, if◌then◌else◌}
 use Rattle.ld_base.specs.declared.wish.Wish.{Wish}
 use Rattle.ld_base.specs.declared.wish.Wish.TheVariants.{Start, More, Drop, Late}
 use Rattle.ld_machine.specs.Moment.{moment_after}
-use Rattle.ld_set.specs.SetView.{is_among}
 use Rattle.ld_rates.specs.RatesView.{RatesView}
-
--- of these users the preferred one, if it is among them, else the first one
-abbrev pub chosen_of : ℕ → List ℕ → Option ℕ
-chosen_of prefer numbers = if is_among numbers prefer then Some prefer else slice_get numbers 0
 
 -- the moment at which an arrival is due, from the run's start
 abbrev pub due_of : RatesView → ℕ × ℕ → ℕ
-due_of state pair = moment_after state.begin pair.1
+due_of state pair = moment_after state.course.begin pair.1
 
 -- until when an iteration may last
 abbrev pub until_moment : RatesView → ℕ
-until_moment state = moment_after state.end state.grace
+until_moment state = moment_after state.course.end state.course.grace
 
 -- before the end: it starts on the idle user, if there is one; else on one more user, if one may be held;
 -- else it is dropped
@@ -30,4 +25,4 @@ answer_before_end state pair None =
 -- at the end, or behind it, the arrival is late
 abbrev pub answer_of : RatesView → ℕ × ℕ → Option ℕ → ℕ → Wish
 answer_of state pair idle reading =
-    if nat_le state.end reading then Late pair.0 (due_of state pair) else answer_before_end state pair idle
+    if nat_le state.course.end reading then Late pair.0 (due_of state pair) else answer_before_end state pair idle

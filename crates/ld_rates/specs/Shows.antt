@@ -1,6 +1,7 @@
 -- Which scenario of the machine a state shows: what the state keeps is what it keeps of that scenario.
 use Rattle.std.specs.Prelude.{◌≡◌, ◌≤◌, ℕ, true, List, IsTrue, map, filter}
 use Rattle.ld_base.specs.declared.act.Act.{Act}
+use Rattle.ld_course.specs.Course.{course_of}
 use Rattle.ld_machine.specs.Plan.{Arrival, Executor, ArrivalRate, Part, owned_items}
 use Rattle.ld_machine.specs.State as machine
 use Rattle.ld_machine.specs.Scenario.{Scenario, is_open_item, executor_arrivals, executor_max_vus}
@@ -9,18 +10,11 @@ use Rattle.ld_machine.specs.ShareEffect.{share_after}
 use Rattle.ld_machine.specs.Together.{holds}
 use Rattle.ld_machine.specs.Told.{IsHeldInOrder, MayBeTold, users_fit}
 use Rattle.ld_machine.specs.Wishes.{has_arrivals}
-use Rattle.ld_rates.specs.declared.level.Level.{Level}
-use Rattle.ld_rates.specs.declared.level.Level.TheVariants.{Runs, StartsNothing, Halted}
 use Rattle.ld_rates.specs.declared.rates_part.RatesPart.{RatesPart}
 use Rattle.ld_rates.specs.RatesView.{RatesView}
 
 -- ---- what is kept of a scenario: of its users only which are idle and how many there are; nothing of the
 -- items that ended, and of what concerns other executors
-
-abbrev pub kept_level : machine.Level → Level
-kept_level machine.Runs = Runs
-kept_level (machine.StartsNothing commanded) = StartsNothing commanded
-kept_level machine.Halted = Halted
 
 -- an arrival's item, and its moment
 abbrev pub kept_pair : Arrival → ℕ × ℕ
@@ -38,14 +32,10 @@ open_arrivals s = filter (λ (a : Arrival). is_open_item s a.item) (executor_arr
 abbrev pub kept_of : Scenario → RatesView
 kept_of s =
     record {
-      begin = s.part.begin;
-      end = s.part.end;
-      grace = s.part.grace;
+      course = course_of s;
       pre = pre_allocated_of s.part.executor;
       max = executor_max_vus s.part.executor;
       waiting = map kept_pair (open_arrivals s);
-      level = kept_level s.share.level;
-      closed = s.share.closed;
       idle = map (λ (h : machine.HeldUser). h.user) (machine.idle_users s.share);
       held = machine.held_count s.share;
     }

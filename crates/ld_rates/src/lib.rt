@@ -4,13 +4,11 @@
 
 mod fault;
 mod laws;
-mod level;
 mod open_arrivals;
 mod rates_part;
 mod rates_state;
 
 pub use fault::ExecFault;
 pub use laws::{distinct_items, may_be_told, shown, shown_numbers};
-pub use level::Level;
 pub use rates_part::RatesPart;
 pub use rates_state::RatesState;

@@ -1,22 +1,22 @@
-ghost use Rattle.std.specs.Prelude.{◌≡◌, ◌+◌, ◌<◌, ◌≤◌, ℕ, IfOk, IfErr, IfSome, IfNone, IsTrue, Some, is_some, true, [], ◌∷◌, ◌++◌, option_to_list, filter, nat_lt, option_map};
-ghost use Rattle.ld_base.specs.declared.act.Act.TheVariants as acts;
-ghost use Rattle.ld_machine.specs.Scenario.{Scenario, first_of, runs, may_take, may_release, may_close, may_stop, due_arrival, least_open_arrival, least_open_item};
+ghost use Rattle.std.specs.Prelude.{◌≡◌, ◌+◌, ◌<◌, ◌≤◌, ℕ, IfOk, IfErr, IfSome, IfNone, IsTrue, Some, is_some, true, [], option_map};
+ghost use Rattle.ld_course.specs.Chosen.{chosen_of};
+ghost use Rattle.ld_course.specs.Course.{own_moments};
+ghost use Rattle.ld_machine.specs.Scenario.{Scenario, first_of, may_take, may_release, may_close, may_stop, due_arrival, least_open_item};
 ghost use Rattle.ld_machine.specs.Moves.{Users, releases, takes};
-ghost use Rattle.ld_machine.specs.Plan.{due_moment};
 ghost use Rattle.ld_machine.specs.Together.{least_above};
 ghost use Rattle.ld_machine.specs.Told.{level_number};
-ghost use Rattle.ld_machine.specs.Wait.{least_of, scenario_moments};
+ghost use Rattle.ld_machine.specs.Wait.{scenario_moments};
 ghost use Rattle.ld_machine.specs.Wishes.{WishesFirst};
 ghost use Rattle.ld_set.specs.SetView.{with_number};
 ghost use Rattle.ld_rates.specs.Shows.{Shows, ShowsOpening, Follows, kept_pair};
-ghost use Rattle.ld_rates.specs.Answer.{answer_of, chosen_of};
+ghost use Rattle.ld_rates.specs.Answer.{answer_of};
 ghost use Rattle.ld_rates.specs.Applies.{MayApply, MayApplyWished, next_item};
 
 use crate::fault::ExecFault;
-use crate::level::Level;
 use crate::open_arrivals::OpenArrivals;
 use crate::rates_part::RatesPart;
-use ld_base::{Act, Command, Wish};
+use ld_base::{Act, Wish};
+use ld_course::{Course, above};
 use ld_set::NumberSet;
 use std::alloc::Global;
 use std::marker::Model;
@@ -24,18 +24,15 @@ use std::marker::Model;
 // Users are numbered from 1 to 1,000.
 const NUMBERS: u32 = 1001;
 
-/// One scenario at an arrival rate, as it stands: its part, its level, which users it holds idle, how many it holds, and
-/// the arrivals that are still open. Readings and moments are in nanoseconds from the run's start.
+/// One scenario at an arrival rate, as it stands: its course, how many users it takes at its begin and may hold, the
+/// arrivals that are still open, which users it holds idle, and how many it holds. Readings and moments are in nanoseconds
+/// from the run's start.
 #[derive(Drop)]
 pub struct RatesState {
-    begin: u64,
-    end: u64,
-    grace: u64,
+    course: Course,
     pre: u32,
     max: u32,
     waiting: OpenArrivals,
-    level: Level,
-    closed: bool,
     // The numbers of the idle users.
     idle: NumberSet,
     held: u32,
@@ -47,7 +44,7 @@ impl Model for RatesState {
 
     ghost Value = { RatesView };
 
-    ghost view = { λ s. record { begin = s.begin; end = s.end; grace = s.grace; pre = s.pre; max = s.max; waiting = s.waiting; level = s.level; closed = s.closed; idle = s.idle.numbers; held = s.held } };
+    ghost view = { λ s. record { course = s.course; pre = s.pre; max = s.max; waiting = s.waiting; idle = s.idle.numbers; held = s.held } };
 
     ghost invariant = { λ s. (s.pre ≤ s.max) × (s.idle.limit ≡ 1001) };
 }
@@ -72,14 +69,10 @@ impl RatesState {
         } = part;
         let idle = NumberSet::new(alloc, NUMBERS)?;
         Ok(RatesState {
-            begin,
-            end,
-            grace,
+            course: Course::opening(begin, end, grace),
             pre,
             max,
             waiting: OpenArrivals::new(ticker),
-            level: Level::Runs,
-            closed: false,
             idle,
             held: 0,
         })
@@ -123,6 +116,7 @@ impl RatesState {
         requires { MayApply self.old act.now }
         ensures follows { Follows self.old self.new act.now reading }
     {
+        self.course.apply(act, reading);
         match act {
             Act::Take { user, .. } => self.hold(*user),
             Act::Grow { user, .. } => self.hold(*user),
@@ -137,9 +131,7 @@ impl RatesState {
                 self.idle.remove(*user);
                 self.held = self.held.saturating_sub(1);
             }
-            Act::Stop { .. } => self.level = Level::Halted,
-            Act::Close { .. } => self.closed = true,
-            Act::Control { command } => self.obey(command, reading),
+            Act::Stop { .. } | Act::Close { .. } | Act::Control { .. } => {}
         }
     }
 
@@ -148,51 +140,29 @@ impl RatesState {
     pub fn candidate(&self, reading: u64) -> Option<u64>
         ensures { (s : Scenario) → Shows self.now s → result ≡ least_above reading (scenario_moments s) }
     {
-        if self.closed {
-            return None;
-        }
-        match self.level {
-            Level::Runs => {
-                let end = lesser(above(reading, self.end), self.next_due(reading));
-                lesser(above(reading, self.begin), end)
-            }
-            Level::StartsNothing { commanded } => {
-                let over = commanded.saturating_add(self.grace);
-                above(reading, over)
-            }
-            Level::Halted => None,
-        }
+        self.course.candidate(reading, self.next_due(reading))
     }
 
     /// The scenario's level: 0 where it runs, 1 where it starts nothing more, 2 where it was halted.
     pub fn level(&self) -> u8
         ensures { (s : Scenario) → Shows self.now s → result ≡ level_number s.share.level }
     {
-        match self.level {
-            Level::Runs => 0,
-            Level::StartsNothing { .. } => 1,
-            Level::Halted => 2,
-        }
+        self.course.level_number()
     }
 
     /// Whether the scenario was closed.
     pub fn is_closed(&self) -> bool
-        ensures kept { result ≡ self.now.closed }
+        ensures kept { result ≡ self.now.course.closed }
         ensures shown { (s : Scenario) → Shows self.now s → result ≡ s.share.closed }
     {
-        self.closed
+        self.course.closed
     }
 
     /// Whether the scenario may be halted: it is open, and its grace is over since a stop was commanded.
     pub fn may_stop(&self, reading: u64) -> bool
         ensures { (s : Scenario) → Shows self.now s → result ≡ may_stop s reading }
     {
-        match self.level {
-            Level::StartsNothing { commanded } => {
-                !self.closed && commanded.saturating_add(self.grace) <= reading
-            }
-            Level::Runs | Level::Halted => false,
-        }
+        self.course.may_stop(reading)
     }
 
     /// The least open item, or None exactly where none is open.
@@ -205,19 +175,10 @@ impl RatesState {
 
     // When the next open arrival is due, if there is one and it is above the reading.
     fn next_due(&self, reading: u64) -> Option<u64>
-        ensures { (s : Scenario) → Shows self.now s → option_to_list result ≡ filter (nat_lt reading) (option_to_list (option_map (due_moment s.part) (least_open_arrival s))) }
+        ensures { (s : Scenario) → Shows self.now s → result ≡ least_above reading (own_moments s) }
     {
         let (_, moment) = self.waiting.first()?;
-        above(reading, self.begin.saturating_add(moment))
-    }
-
-    // A command reaches an open scenario only where it is a stop.
-    fn obey(&mut self, command: &Command, reading: u64)
-        ensures { Follows self.old self.new (acts.Control command.now) reading }
-    {
-        if *command == Command::Stop && !self.closed {
-            self.level = Level::StartsNothing { commanded: reading };
-        }
+        above(reading, self.course.begin.saturating_add(moment))
     }
 
     // Holds one user more, which is idle.
@@ -239,13 +200,6 @@ impl RatesState {
         } else {
             self.idle.least()
         }
-    }
-
-    // Whether the scenario is open, at level 0.
-    fn runs(&self) -> bool
-        ensures { (s : Scenario) → Shows self.now s → result ≡ runs s }
-    {
-        !self.closed && self.level == Level::Runs
     }
 
     // The idle user that is to be released, if there is one.
@@ -279,7 +233,7 @@ impl RatesState {
     fn may_release(&self, reading: u64) -> bool
         ensures { (s : Scenario) (slot : ℕ) → Shows self.now s → result ≡ may_release s slot reading }
     {
-        !self.closed && (!self.runs() || self.end <= reading)
+        !self.course.closed && (!self.course.runs() || self.course.has_ended(reading))
     }
 
     // Whether a user may be taken, if one is free.
@@ -287,17 +241,17 @@ impl RatesState {
         ensures shown { (s : Scenario) (slot : ℕ) → Shows self.now s → result ≡ may_take s slot reading }
         ensures few { IsTrue result → self.now.held < self.now.max }
     {
-        self.runs() && self.begin <= reading && reading < self.end && self.held < self.pre
+        self.course.is_live(reading) && self.held < self.pre
     }
 
     // Whether the scenario may close.
     fn may_close(&self, reading: u64) -> bool
         ensures { (s : Scenario) → Shows self.now s → result ≡ may_close s reading }
     {
-        if self.closed || self.held != 0 {
+        if self.course.closed || self.held != 0 {
             return false;
         }
-        !self.runs() || (self.waiting.first().is_none() && self.end <= reading)
+        !self.course.runs() || (self.waiting.first().is_none() && self.course.has_ended(reading))
     }
 
     // The arrival that is to be answered, if there is one, with its moment.
@@ -305,11 +259,11 @@ impl RatesState {
         ensures shown { (s : Scenario) → Shows self.now s → result ≡ option_map kept_pair (due_arrival s reading) }
         ensures first { IfSome result (λ pair. next_item self.now ≡ Some pair.0) }
     {
-        if !self.runs() {
+        if !self.course.runs() {
             return None;
         }
         let (item, moment) = self.waiting.first()?;
-        if self.begin.saturating_add(moment) <= reading {
+        if self.course.begin.saturating_add(moment) <= reading {
             Some((item, moment))
         } else {
             None
@@ -320,9 +274,9 @@ impl RatesState {
     fn answer(&self, item: u64, moment: u64, idle: Option<u32>, reading: u64) -> Wish
         ensures { result ≡ answer_of self.now (item, moment) idle reading }
     {
-        let due = self.begin.saturating_add(moment);
-        let until = self.end.saturating_add(self.grace);
-        if self.end <= reading {
+        let due = self.course.begin.saturating_add(moment);
+        let until = self.course.hard_moment();
+        if self.course.has_ended(reading) {
             return Wish::Late { item, due };
         }
         if let Some(user) = idle {
@@ -344,23 +298,5 @@ impl RatesState {
         } else {
             Wish::Drop { item, due }
         }
-    }
-}
-
-// A moment, if it is above the reading.
-fn above(reading: u64, moment: u64) -> Option<u64>
-    ensures { option_to_list result ≡ filter (nat_lt reading) (moment ∷ []) }
-{
-    if reading < moment { Some(moment) } else { None }
-}
-
-// The lesser of two moments, or the one that there is.
-fn lesser(a: Option<u64>, b: Option<u64>) -> Option<u64>
-    ensures { result ≡ least_of (option_to_list a ++ option_to_list b) }
-{
-    match (a, b) {
-        (Some(a), Some(b)) => Some(a.min(b)),
-        (Some(a), None) => Some(a),
-        (None, b) => b,
     }
 }

@@ -1,5 +1,6 @@
 mod desk;
 mod faults;
+mod iterations;
 mod known;
 mod memory;
 mod refusals;

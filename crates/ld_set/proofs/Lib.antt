@@ -1,3 +1,4 @@
 pub mod MomentLemmas
 pub mod NumberLemmas
 pub mod WordLemmas
+pub mod MatchLemmas

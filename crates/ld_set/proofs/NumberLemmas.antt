@@ -110,7 +110,7 @@ module _ (p q : ℕ → Bool) (number : ℕ) (here : q number ≡ true) (same : 
       ]
 
 -- two tests one behind the other
-kept_twice : (p r : ℕ → Bool) (ks : List ℕ) → filter r (filter p ks) ≡ filter (λ k. p k && r k) ks
+pub kept_twice : (p r : ℕ → Bool) (ks : List ℕ) → filter r (filter p ks) ≡ filter (λ k. p k && r k) ks
 kept_twice p r [] = refl
 kept_twice p r (k ∷ ks) =
     let P : Bool → Type 0 = λ b. filter r (cond b (k ∷ filter p ks) (filter p ks))

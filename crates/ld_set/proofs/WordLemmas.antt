@@ -24,7 +24,7 @@ unfolding has_bit
 bit_is_clear words number zero = ne_eqb _ 1 (λ one. omega arith)
 
 -- a word that is 0 has no number, and one with a number isn't 0
-clear_in_zero : (words : List ℕ) (number : ℕ) → get_or words (number / 64) 0 ≡ 0 → has_bit words number ≡ false
+pub clear_in_zero : (words : List ℕ) (number : ℕ) → get_or words (number / 64) 0 ≡ 0 → has_bit words number ≡ false
 clear_in_zero words number none = bit_is_clear words number (rw none (bit_at-zero (number % 64)))
 
 set_in_some : (words : List ℕ) (number : ℕ) → has_bit words number ≡ true → get_or words (number / 64) 0 ≢ 0

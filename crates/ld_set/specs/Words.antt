@@ -1,5 +1,5 @@
 -- How the words of a set hold its numbers.
-use Rattle.std.specs.Prelude.{◌≡◌, ◌≢◌, ◌*◌, ◌/◌, ◌%◌, ◌^◌, ◌<◌, ◌≤◌, ◌==◌, ℕ, Bool, false, List, filter, length, slice_index}
+use Rattle.std.specs.Prelude.{◌≡◌, ◌≢◌, ◌*◌, ◌/◌, ◌%◌, ◌^◌, ◌<◌, ◌≤◌, ◌==◌, ◌&&◌, ℕ, Bool, true, false, not, List, filter, length, slice_index}
 use Rattle.std.specs.Int.{bit_at, div_ceil}
 use Rattle.std.specs.List.{range_with_len}
 
@@ -21,3 +21,17 @@ pub record IsKept (words : List ℕ) (from count limit : ℕ) : Type 0 where
   pub some : from ≤ length words
   pub before : (number : ℕ) → number < 64 * from → has_bit words number ≡ false
   pub used : from < length words → slice_index words from ≢ 0
+
+-- a test that is to hold, or is to fail
+abbrev pub as_wanted : Bool → Bool → Bool
+as_wanted true test = test
+as_wanted false test = not test
+
+-- the number's bit is set in these words, and in the others as it is wanted
+abbrev pub matches : List ℕ → List ℕ → Bool → ℕ → Bool
+matches words others wanted number = has_bit words number && as_wanted wanted (has_bit others number)
+
+-- the first number for which this holds
+pub record IsFirstMatch (words others : List ℕ) (wanted : Bool) (number : ℕ) : Type 0 where
+  pub here : matches words others wanted number ≡ true
+  pub before : (k : ℕ) → k < number → matches words others wanted k ≡ false

@@ -1,7 +1,9 @@
-ghost use Rattle.std.specs.Prelude.{◌≡◌, ◌≢◌, ◌+◌, ◌<◌, ◌≤◌, ℕ, List, All, IfOk, [], length, slice_get, slice_index};
+ghost use Rattle.std.specs.Prelude.{◌≡◌, ◌≢◌, ◌+◌, ◌^◌, ◌<◌, ◌≤◌, ◌==◌, ◌&&◌, ℕ, List, All, IfOk, IfSome, IfNone, false, not, [], filter, length, slice_get, slice_index};
+ghost use Rattle.std.specs.Int.{bit_at};
 ghost use Rattle.std.specs.List.{range_with_len};
 ghost use Rattle.std.specs.List.Sorted.{IsStrictlyIncreasing};
 ghost use Rattle.ld_set.specs.SetView.{is_among, with_number, without_number};
+ghost use Rattle.ld_set.specs.Words.{IsFirstMatch, as_wanted, matches};
 
 use std::alloc::{AllocError, Global};
 use std::marker::Model;
@@ -105,6 +107,22 @@ impl NumberSet {
         Some(self.from as u32 * 64 + word.trailing_zeros())
     }
 
+    /// The least number that is in both sets, whose limits may differ, at one look at each word. None exactly where there is
+    /// none.
+    pub fn least_with(&self, other: &NumberSet) -> Option<u32>
+        ensures first { result ≡ slice_get (filter (is_among other.now.numbers) self.now.numbers) 0 }
+    {
+        first_match(&self.words, &other.words, true)
+    }
+
+    /// The least number of this set that isn't in the other, whose limit may differ, at one look at each word. None exactly
+    /// where there is none.
+    pub fn least_without(&self, other: &NumberSet) -> Option<u32>
+        ensures first { result ≡ slice_get (filter (λ k. not (is_among other.now.numbers k)) self.now.numbers) 0 }
+    {
+        first_match(&self.words, &other.words, false)
+    }
+
     /// How many numbers are in the set. Each is above the one before, and below the limit.
     pub fn count(&self) -> u32
         ensures count { result ≡ length self.now.numbers }
@@ -128,4 +146,27 @@ fn first_used(words: &[u64], from: usize) -> usize
         at += 1;
     }
     at
+}
+
+// The least number whose bit is set in these words, and in the others as it is wanted. A word that the others lack is 0.
+fn first_match(words: &[u64], others: &[u64], wanted: bool) -> Option<u32>
+    requires few { length words.now ≤ 2 ^ 26 }
+    ensures some { IfSome result (IsFirstMatch words.now others.now wanted) }
+    ensures none { IfNone result ((k : ℕ) → matches words.now others.now wanted k ≡ false) }
+{
+    for at in 0..words.len() {
+        let other = others.get(at).copied().unwrap_or(0);
+        let bits = matching_bits(words[at], other, wanted);
+        if bits != 0 {
+            return Some(at as u32 * 64 + bits.trailing_zeros());
+        }
+    }
+    None
+}
+
+// The bits of a word that the other word has too, or else those that it hasn't.
+fn matching_bits(word: u64, other: u64, wanted: bool) -> u64
+    ensures { (i : ℕ) → i < 64 → (bit_at result i == 1) ≡ ((bit_at word i == 1) && as_wanted wanted (bit_at other i == 1)) }
+{
+    if wanted { word & other } else { word & !other }
 }

@@ -1,5 +1,5 @@
 -- Striping: which position owns each index, by a pattern that follows the weights and repeats.
-use Rattle.std.specs.Prelude.{◌≡◌, ◌≢◌, ◌<◌, ◌≤◌, ◌*◌, ◌%◌, ◌==◌, ◌⊎◌, ℕ, List, All, length, map, sum, take, count_by, slice_index}
+use Rattle.std.specs.Prelude.{◌≡◌, ◌≢◌, ◌<◌, ◌≤◌, ◌*◌, ◌%◌, ◌==◌, ◌⊎◌, ℕ, List, All, length, map, sum, take, count_by, filter, slice_index}
 use Rattle.std.specs.List.{range_with_len}
 use Rattle.std.specs.Int.{◌∣◌}
 
@@ -42,6 +42,10 @@ pub record IsStriping (weights owners : List ℕ) : Type 0 where
 -- the owner of index x, where the owners of one period repeat
 abbrev pub owner_at : List ℕ → ℕ → ℕ
 owner_at owners x = slice_index owners (x % length owners)
+
+-- the indices below v that position j owns, in order
+abbrev pub owned_indices : List ℕ → ℕ → ℕ → List ℕ
+owned_indices owners j v = filter (λ x. owner_at owners x == j) (range_with_len 0 v)
 
 -- how many of the indices below v position j owns
 abbrev pub share_at : List ℕ → ℕ → ℕ → ℕ

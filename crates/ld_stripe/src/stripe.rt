@@ -102,6 +102,18 @@ impl Stripe {
         share_of(&self.weights, &self.owners, position, v)
     }
 
+    /// An equal striping.
+    ///
+    /// Fails where there is no memory for it.
+    pub fn copy(&self, alloc: Global) -> Result<Stripe, StripeFault>
+        ensures equal { IfOk result (λ s. s ≡ self.now) }
+        ensures memory { IfErr result (λ f. f ≡ StripeFault.Memory) }
+    {
+        let weights = Vec::from_slice(alloc, self.weights.as_slice())?;
+        let owners = Vec::from_slice(alloc, self.owners.as_slice())?;
+        Ok(Stripe { weights, owners })
+    }
+
     /// The striping of the shares that the positions have of `v` indices, from 1 to 100,000. Each
     /// position keeps its place, and one without a share owns nothing.
     pub fn rescale(&self, alloc: Global, v: u64) -> Result<Stripe, StripeFault>

@@ -1,35 +1,34 @@
 -- The lines of a plan, scenario by scenario and item by item.
-use Rattle.std.proofs.Common.{◌≡◌, ◌<◌, ◌+◌, ◌∙◌, ◌↔◌, ◌∷◌, ◌++◌, [], ℕ, zero, suc, Bool, true, false, List, get_or, length, map, take, cond, arith, ap, ap₂, sym, refl, subst, append_assoc}
+use Rattle.std.proofs.Common.{◌≡◌, ◌<◌, ◌+◌, ◌∙◌, ◌↔◌, ◌∷◌, ◌++◌, ◌==◌, [], ℕ, zero, suc, Bool, true, false, List, get_or, length, map, take, cond, arith, ap, ap₂, sym, refl, subst, append_assoc}
 use Rattle.std.proofs.lemmas.List.{append-nil, length-map, map-append, map-id}
 use Rattle.std.proofs.lemmas.List.Elements.{filter-append}
 use Rattle.std.proofs.lemmas.List.FromFn.{map-range_with_len_more}
 use Rattle.std.proofs.lemmas.Map.Views.{Contains-from_any, list_any-from_Contains}
 use Rattle.std.proofs.lemmas.Bool.{eqb-true}
 use Rattle.std.proofs.Math.Seq.{take-length}
-use Rattle.std.proofs.lemmas.Option.{MatchOption-at_some, same_Some, slice_get-map, slice_get_read}
-use Rattle.std.proofs.lemmas.Slice.Zip.{AllZip-left, AllZip-long, length-zip}
+use Rattle.std.proofs.lemmas.Option.{same_Some, slice_get_read}
+use Rattle.std.proofs.lemmas.Slice.Zip.{AllZip-long, length-zip}
 use Rattle.std.specs.Cmp.{both_ways, nat_eq_equiv}
-use Rattle.std.specs.List.{concat, filter, flat_map, range_with_len, zip}
-use Rattle.std.specs.Option.{IsSomeAnd}
-use Rattle.std.specs.Prelude.{Contains, IsTrue, None, Option, Some, option_map, slice_get}
-use Rattle.ld_arrival.specs.Timetable.{moment_of}
+use Rattle.std.specs.List.{concat, filter, flat_map, list_any, range_with_len, zip}
+use Rattle.std.specs.Option.{IsSomeAnd, option_map_or}
+use Rattle.std.specs.Prelude.{Contains, IsTrue, None, Option, Some, slice_get}
+use Rattle.ld_arrival.specs.Timetable.{Timetable, moment_of}
 use Rattle.ld_line.proofs.LineLemmas.{element_added, line_added}
 use Rattle.ld_machine.specs.Moment.{moment_after}
 use Rattle.ld_machine.specs.Plan.{Part, owned_items}
 use Rattle.ld_options.specs.declared.options.Options.{Options}
 use Rattle.ld_options.specs.declared.scenario.Scenario.{Scenario}
-use Rattle.ld_plan.specs.IsPlanOf.{IsPartOf, sample_room}
 use Rattle.ld_plan.specs.PartView.{PartView}
 use Rattle.ld_plan.specs.Plan.{IsMade}
 use Rattle.ld_plan.specs.PlanView.{PlanView, Whole}
 use Rattle.ld_plan.specs.Row.{row_of}
 use Rattle.ld_plan.specs.declared.row.Row.{Row}
-use Rattle.ld_summary.specs.PlanText.{all_scenario_lines, is_owned, item_line, item_lines, item_moment, scenario_line, scenario_lines}
+use Rattle.ld_summary.specs.PlanText.{all_scenario_lines, arrival_lines, moment_line, scenario_line, scenario_lines}
 
 -- ---- the scenarios of the options, and the parts of the plan
 
 -- there is one part for each scenario
-as_many : (seen : PlanView) → IsMade seen → length seen.options.scenarios ≡ length seen.plan.parts
+pub as_many : (seen : PlanView) → IsMade seen → length seen.options.scenarios ≡ length seen.plan.parts
 as_many seen made =
     let is = made.is_plan in
     let views = AllZip-long _ seen.options.scenarios is.views is.are_parts.owned in
@@ -41,10 +40,18 @@ there None P is = absurd is
 there (Some x) P is = (x, refl, is)
 
 -- what holds of the value that is there
-of_this : {X : Type 0} (o : Option X) (P : X → Type 0) (x : X) → o ≡ Some x → IsSomeAnd o P → P x
+pub of_this : {X : Type 0} (o : Option X) (P : X → Type 0) (x : X) → o ≡ Some x → IsSomeAnd o P → P x
 of_this {X = X} o P x at is = subst (λ (p : Option X). IsSomeAnd p P) at is
 
--- ---- items
+-- ---- arrivals
+
+-- the instance owns an item
+abbrev pub is_owned : Part → ℕ → Bool
+is_owned part item = list_any (λ k. item == k) (owned_items part.executor)
+
+-- when an arrival of this timetable is due, counted from the run's start
+abbrev pub due_at : Part → Option Timetable → ℕ → ℕ
+due_at part timetable item = moment_after part.begin (option_map_or (λ (t : Timetable). moment_of t item) timetable 0)
 
 -- the list of one number more
 one_number_more : (n : ℕ) → range_with_len 0 (n + 1) ≡ range_with_len 0 n ++ n ∷ []
@@ -60,81 +67,71 @@ owned_is part item owned is =
     (λ holds. list_any-from_Contains nat_eq_equiv item (owned_items part.executor) (is.0 holds))
     (λ holds. is.1 (Contains-from_any (λ x y. eqb-true x y) item (owned_items part.executor) holds))
 
--- the lines of the owned items below a number
-abbrev pub lines_below : Scenario → Part → ℕ → List (List ℕ)
-lines_below s part n = map (item_line s) (filter (is_owned part) (range_with_len 0 n))
+-- the line of an arrival of this timetable, and the lines of the owned ones below a number
+abbrev pub line_at : Part → Option Timetable → ℕ → List ℕ
+line_at part timetable item = moment_line item (due_at part timetable item)
+
+abbrev pub lines_below : Part → Option Timetable → ℕ → List (List ℕ)
+lines_below part timetable n = map (line_at part timetable) (filter (is_owned part) (range_with_len 0 n))
 
 -- what the next item adds to the owned ones
-lines_more : (s : Scenario) (part : Part) (n : ℕ) → lines_below s part (n + 1) ≡ lines_below s part n ++ map (item_line s) (filter (is_owned part) (n ∷ []))
-lines_more s part n =
+lines_more : (part : Part) (timetable : Option Timetable) (n : ℕ) →
+    lines_below part timetable (n + 1) ≡ lines_below part timetable n ++ map (line_at part timetable) (filter (is_owned part) (n ∷ []))
+lines_more part timetable n =
     let below = range_with_len 0 n in
-    ap (λ ns. map (item_line s) (filter (is_owned part) ns)) (one_number_more n)
-    ∙ ap (map (item_line s)) (filter-append (is_owned part) below (n ∷ []))
-    ∙ map-append (item_line s) (filter (is_owned part) below) (filter (is_owned part) (n ∷ []))
+    ap (λ ns. map (line_at part timetable) (filter (is_owned part) ns)) (one_number_more n)
+    ∙ ap (map (line_at part timetable)) (filter-append (is_owned part) below (n ∷ []))
+    ∙ map-append (line_at part timetable) (filter (is_owned part) below) (filter (is_owned part) (n ∷ []))
 
--- an owned item adds its line
-item_added : (s : Scenario) (part : Part) (n : ℕ) (a b c : List ℕ) → is_owned part n ≡ true → b ≡ a ++ concat (lines_below s part n) →
-    c ≡ b ++ item_line s n → c ≡ a ++ concat (lines_below s part (n + 1))
-item_added s part n a b c owned so_far is =
-    line_added a b c (lines_below s part n) (item_line s n) so_far is
+-- an owned arrival adds its line
+item_added : (part : Part) (timetable : Option Timetable) (n : ℕ) (a b c : List ℕ) → is_owned part n ≡ true →
+    b ≡ a ++ concat (lines_below part timetable n) → c ≡ b ++ line_at part timetable n → c ≡ a ++ concat (lines_below part timetable (n + 1))
+item_added part timetable n a b c owned so_far is =
+    line_added a b c (lines_below part timetable n) (line_at part timetable n) so_far is
     ∙ ap (λ ls. a ++ concat ls)
-    (sym (lines_more s part n ∙ ap (λ t. lines_below s part n ++ map (item_line s) (cond t (n ∷ []) [])) owned))
+    (sym (lines_more part timetable n ∙ ap (λ t. lines_below part timetable n ++ map (line_at part timetable) (cond t (n ∷ []) [])) owned))
 
 -- another adds nothing
-item_passed : (s : Scenario) (part : Part) (n : ℕ) (a b : List ℕ) → is_owned part n ≡ false → b ≡ a ++ concat (lines_below s part n) →
-    b ≡ a ++ concat (lines_below s part (n + 1))
-item_passed s part n a b other so_far =
+item_passed : (part : Part) (timetable : Option Timetable) (n : ℕ) (a b : List ℕ) → is_owned part n ≡ false →
+    b ≡ a ++ concat (lines_below part timetable n) → b ≡ a ++ concat (lines_below part timetable (n + 1))
+item_passed part timetable n a b other so_far =
     so_far
     ∙ ap (λ ls. a ++ concat ls)
     (sym
-    (lines_more s part n
-    ∙ ap (λ t. lines_below s part n ++ map (item_line s) (cond t (n ∷ []) [])) other
-    ∙ append-nil (lines_below s part n)))
+    (lines_more part timetable n
+    ∙ ap (λ t. lines_below part timetable n ++ map (line_at part timetable) (cond t (n ∷ []) [])) other
+    ∙ append-nil (lines_below part timetable n)))
 
--- the moment that the plan answers is the item's
-pub moment_is : (seen : PlanView) (n : ℕ) (s : Scenario) (item moment : ℕ) → IsMade seen → slice_get seen.options.scenarios n ≡ Some s →
-    IsSomeAnd (slice_get seen.plan.parts n) (λ part. IsSomeAnd (slice_get seen.wholes n) (λ whole. moment ≡ moment_after part.begin (moment_of whole.timetable item))) →
-    moment ≡ item_moment s item
-moment_is seen n s item moment made at is =
-    let plan = made.is_plan in
-    let views = plan.views in
-    let Owns = λ (x : Scenario). IsPartOf (sample_room seen.options.scripts.scripts x.script) plan.are_parts.striping seen.position x in
-    let beside = MatchOption-at_some (Unit {0}) (λ (x : Scenario). IsSomeAnd (slice_get views n) (Owns x)) s at (AllZip-left Owns seen.options.scenarios views plan.are_parts.owned n) in
-    let found = there (slice_get views n) (Owns s) beside in
-    let view = found.0 in
-    let own = found.2 in
-    let part : slice_get seen.plan.parts n ≡ Some view.part =
-    ap (λ (ps : List Part). slice_get ps n) plan.parts ∙ slice_get-map (λ (v : PartView). v.part) views n ∙ ap (option_map (λ (v : PartView). v.part)) found.1 in
-    let whole : slice_get seen.wholes n ≡ Some view.whole =
-    ap (λ (ws : List Whole). slice_get ws n) plan.wholes ∙ slice_get-map (λ (v : PartView). v.whole) views n ∙ ap (option_map (λ (v : PartView). v.whole)) found.1 in
-    of_this (slice_get seen.wholes n) _ view.whole whole (of_this (slice_get seen.plan.parts n) _ view.part part is)
-    ∙ ap (λ (p : Part). moment_after p.begin (moment_of view.whole.timetable item)) own.part_is
-    ∙ ap (λ (w : Whole). moment_after s.begin (moment_of w.timetable item)) own.whole_is
+-- ---- the arrivals of a plan's scenario
 
--- nothing is told of a part that is there before its first item
-pub told_none : (o : Option Part) (s : Scenario) (end : ℕ) (a : List ℕ) → IsSomeAnd o (λ part. end ≡ part.whole_items) →
-    IsSomeAnd o (λ part. a ≡ a ++ concat (lines_below s part 0))
-told_none None s end a there_is = absurd there_is
-told_none (Some part) s end a there_is = sym (append-nil a)
+-- a part of the plan, and the scenario of the whole test beside it
+pub record IsAt (seen : PlanView) (n : ℕ) (part : Part) (whole : Whole) : Type 0 where
+  pub part_at : slice_get seen.plan.parts n ≡ Some part
+  pub whole_at : slice_get seen.wholes n ≡ Some whole
 
--- what was told of the part so far, and is told behind one item more
-pub told_added : (o : Option Part) (s : Scenario) (n : ℕ) (a b c : List ℕ) (owned : Bool) → owned ≡ true →
-    IsSomeAnd o (λ part. IsTrue owned ↔ Contains (owned_items part.executor) n) → IsSomeAnd o (λ part. b ≡ a ++ concat (lines_below s part n)) →
-    c ≡ b ++ item_line s n → IsSomeAnd o (λ part. c ≡ a ++ concat (lines_below s part (n + 1)))
-told_added None s n a b c owned true_is is so_far line = absurd is
-told_added (Some part) s n a b c owned true_is is so_far line = item_added s part n a b c (sym (owned_is part n owned is) ∙ true_is) so_far line
+-- the moment that the plan answers is when the arrival is due
+pub moment_is : (seen : PlanView) (n : ℕ) (part : Part) (whole : Whole) (item moment : ℕ) → IsAt seen n part whole →
+    IsSomeAnd (slice_get seen.plan.parts n) (λ part. IsSomeAnd (slice_get seen.wholes n) (λ whole.
+    IsSomeAnd whole.timetable (λ timetable. moment ≡ moment_after part.begin (moment_of timetable item)))) →
+    moment ≡ due_at part whole.timetable item
+moment_is seen n part whole item moment at is =
+    let here = of_this (slice_get seen.wholes n) _ whole at.whole_at (of_this (slice_get seen.plan.parts n) _ part at.part_at is) in
+    let timed = there whole.timetable _ here in
+    timed.2 ∙ ap (λ (o : Option Timetable). due_at part o item) (sym timed.1)
 
-pub told_passed : (o : Option Part) (s : Scenario) (n : ℕ) (a b : List ℕ) (owned : Bool) → owned ≡ false →
-    IsSomeAnd o (λ part. IsTrue owned ↔ Contains (owned_items part.executor) n) → IsSomeAnd o (λ part. b ≡ a ++ concat (lines_below s part n)) →
-    IsSomeAnd o (λ part. b ≡ a ++ concat (lines_below s part (n + 1)))
-told_passed None s n a b owned false_is is so_far = absurd is
-told_passed (Some part) s n a b owned false_is is so_far = item_passed s part n a b (sym (owned_is part n owned is) ∙ false_is) so_far
+-- what was told of the part so far, and is told behind one arrival more
+pub told_added : (seen : PlanView) (n : ℕ) (part : Part) (whole : Whole) (item : ℕ) (a b c : List ℕ) (owned : Bool) → IsAt seen n part whole → owned ≡ true →
+    IsSomeAnd (slice_get seen.plan.parts n) (λ part. IsTrue owned ↔ Contains (owned_items part.executor) item) →
+    b ≡ a ++ concat (lines_below part whole.timetable item) → c ≡ b ++ line_at part whole.timetable item →
+    c ≡ a ++ concat (lines_below part whole.timetable (item + 1))
+told_added seen n part whole item a b c owned at true_is is so_far line =
+    item_added part whole.timetable item a b c (sym (owned_is part item owned (of_this (slice_get seen.plan.parts n) _ part at.part_at is)) ∙ true_is) so_far line
 
--- all items are told where the numbers are those of the whole
-pub told_all : (o : Option Part) (s : Scenario) (n end : ℕ) (a b : List ℕ) → n ≡ end → IsSomeAnd o (λ part. end ≡ part.whole_items) →
-    IsSomeAnd o (λ part. b ≡ a ++ concat (lines_below s part n)) → IsSomeAnd o (λ part. b ≡ a ++ concat (item_lines s part))
-told_all None s n end a b at_end whole so_far = absurd whole
-told_all (Some part) s n end a b at_end whole so_far = so_far ∙ ap (λ k. a ++ concat (lines_below s part k)) (at_end ∙ whole)
+pub told_passed : (seen : PlanView) (n : ℕ) (part : Part) (whole : Whole) (item : ℕ) (a b : List ℕ) (owned : Bool) → IsAt seen n part whole → owned ≡ false →
+    IsSomeAnd (slice_get seen.plan.parts n) (λ part. IsTrue owned ↔ Contains (owned_items part.executor) item) →
+    b ≡ a ++ concat (lines_below part whole.timetable item) → b ≡ a ++ concat (lines_below part whole.timetable (item + 1))
+told_passed seen n part whole item a b owned at false_is is so_far =
+    item_passed part whole.timetable item a b (sym (owned_is part item owned (of_this (slice_get seen.plan.parts n) _ part at.part_at is)) ∙ false_is) so_far
 
 -- ---- scenarios
 
@@ -146,18 +143,18 @@ row_told (Some part) listed s row a b unlisted row_is is =
     is
     ∙ ap (λ (r : Row). a ++ scenario_line s r) row_is
     ∙ ap (λ t. a ++ t) (sym (append-nil (scenario_line s (row_of part))))
-    ∙ ap (λ t. a ++ concat (scenario_line s (row_of part) ∷ cond t (item_lines s part) [])) (sym unlisted)
+    ∙ ap (λ t. a ++ concat (scenario_line s (row_of part) ∷ cond t (arrival_lines part) [])) (sym unlisted)
 
 -- the line of the part, and those of its items behind it
 pub row_and_items_told : (o : Option Part) (listed : Bool) (s : Scenario) (row : Row) (a b c : List ℕ) → listed ≡ true → IsSomeAnd o (λ part. row ≡ row_of part) →
-    b ≡ a ++ scenario_line s row → IsSomeAnd o (λ part. c ≡ b ++ concat (item_lines s part)) →
+    b ≡ a ++ scenario_line s row → IsSomeAnd o (λ part. c ≡ b ++ concat (arrival_lines part)) →
     IsSomeAnd o (λ part. c ≡ a ++ concat (scenario_lines listed (s, part)))
 row_and_items_told None listed s row a b c unlisted row_is is more = absurd row_is
 row_and_items_told (Some part) listed s row a b c all row_is is more =
     more
-    ∙ ap (λ t. t ++ concat (item_lines s part)) (is ∙ ap (λ (r : Row). a ++ scenario_line s r) row_is)
-    ∙ append_assoc a (scenario_line s (row_of part)) (concat (item_lines s part))
-    ∙ ap (λ t. a ++ concat (scenario_line s (row_of part) ∷ cond t (item_lines s part) [])) (sym all)
+    ∙ ap (λ t. t ++ concat (arrival_lines part)) (is ∙ ap (λ (r : Row). a ++ scenario_line s r) row_is)
+    ∙ append_assoc a (scenario_line s (row_of part)) (concat (arrival_lines part))
+    ∙ ap (λ t. a ++ concat (scenario_line s (row_of part) ∷ cond t (arrival_lines part) [])) (sym all)
 
 -- what stands at one place of two lists stands there as a pair
 in_pairs : {X Y : Type 0} (xs : List X) (ys : List Y) (n : ℕ) (x : X) (y : Y) → slice_get xs n ≡ Some x → slice_get ys n ≡ Some y →

@@ -12,6 +12,6 @@ mod planned;
 mod text;
 
 pub use fault::SummaryFault;
-pub use laws::{listed_arrivals, settled_counts};
+pub use laws::settled_counts;
 pub use plan_lines::plan_text;
 pub use text::summary_text;

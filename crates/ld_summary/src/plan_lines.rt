@@ -4,17 +4,17 @@ ghost use Rattle.std.specs.List.{concat};
 ghost use Rattle.ld_line.specs.Line.{Grows};
 ghost use Rattle.ld_options.specs.declared.scenario.Scenario.{Scenario};
 ghost use Rattle.ld_plan.specs.Plan.{IsMade};
-ghost use Rattle.ld_summary.specs.PlanText.{all_scenario_lines, executor_name, item_lines, moment_line, plan_text, scenario_line, scenario_lines, sequence_line, users_line};
+ghost use Rattle.ld_summary.specs.PlanText.{all_scenario_lines, arrival_lines, moment_line, plan_text, scenario_line, scenario_lines, sequence_line, users_line};
 
 use crate::fault::SummaryFault;
 use ld_base::BaseFault;
 use ld_line::{Word, put_line};
-use ld_options::{Executor, Scenario};
+use ld_options::Scenario;
 use ld_plan::{Plan, Row};
 
 /// Appends what a plan says: its sequence and position, how many users it needs, and for each
 /// scenario its name, its executor and what the instance owns of it in numbers. Where `listed`, the
-/// items that the instance owns of the scenario follow in rising order, each with the moment at which
+/// arrivals that the instance owns of the scenario follow in rising order, each with the moment at which
 /// it is due. Moments are in nanoseconds from the run's start.
 ///
 /// Fails where the allocator gives no memory for the text; `into` is then as before.
@@ -106,7 +106,7 @@ fn put_scenario(
 {
     put_row(scenario, plan.row(number), into)?;
     if listed {
-        put_items(plan, number, into)
+        put_arrivals(plan, number, into)
     } else {
         Ok(())
     }
@@ -122,7 +122,7 @@ fn put_row(scenario: &Scenario, row: Row, into: &mut Vec<u8>) -> Result<(), Base
         &[
             Word::Text(b"scenario"),
             Word::Text(scenario.name.as_slice()),
-            Word::Text(executor_name(&scenario.executor)),
+            Word::Text(scenario.executor.name().as_bytes()),
             Word::Text(b"begin"),
             Word::Number(row.begin),
             Word::Text(b"end"),
@@ -139,30 +139,15 @@ fn put_row(scenario: &Scenario, row: Row, into: &mut Vec<u8>) -> Result<(), Base
     )
 }
 
-// An executor, as k6 names it.
-fn executor_name(executor: &Executor) -> &'static [u8]
-    ensures { result.now ≡ executor_name executor.now }
-{
-    match executor {
-        Executor::ConstantArrivals {
-            rate: _,
-            unit: _,
-            duration: _,
-            pre: _,
-            max: _,
-        } => b"constant-arrival-rate",
-    }
-}
-
-// Appends a line for each item that the instance owns of the scenario of a number, in rising order.
-fn put_items(plan: &Plan, number: u16, into: &mut Vec<u8>) -> Result<(), BaseFault>
+// Appends a line for each arrival that the instance owns of the scenario of a number, in rising order.
+fn put_arrivals(plan: &Plan, number: u16, into: &mut Vec<u8>) -> Result<(), BaseFault>
     requires made { IsMade plan.now }
     requires inside { number < length plan.now.plan.parts }
-    ensures ok { OnOk result ((scenario : Scenario) → slice_get plan.now.options.scenarios number ≡ Some scenario →
-        IsSomeAnd (slice_get plan.now.plan.parts number) (λ part. into.new.items ≡ into.old.items ++ concat (item_lines scenario part))) }
+    ensures ok { OnOk result (IsSomeAnd (slice_get plan.now.plan.parts number)
+        (λ part. into.new.items ≡ into.old.items ++ concat (arrival_lines part))) }
     ensures err { OnErr result (Grows into.old.items into.new.items) }
 {
-    for item in 0..plan.whole_items(number) {
+    for item in 0..plan.arrivals(number) {
         if plan.owns(number, item) {
             put_moment(item, plan.moment(number, item), into)?;
         }
@@ -170,7 +155,7 @@ fn put_items(plan: &Plan, number: u16, into: &mut Vec<u8>) -> Result<(), BaseFau
     Ok(())
 }
 
-// Appends the line of an item that is due at a moment.
+// Appends the line of an arrival that is due at a moment.
 fn put_moment(item: u64, moment: u64, into: &mut Vec<u8>) -> Result<(), BaseFault>
     ensures ok { OnOk result (into.new.items ≡ into.old.items ++ moment_line item moment) }
     ensures err { OnErr result (Grows into.old.items into.new.items) }

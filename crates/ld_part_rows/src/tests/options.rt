@@ -80,6 +80,8 @@ null => WrongKind
 // Documents of two scenarios, with what they ask for.
 const PAIRS: &str =
     r#"{"options":{"scenarios":{"main":@,"other":@}},"scripts":{"second":[]}} => main begin 90000000000 grace 1500000000 script 0 of 1 rate 20 unit 2000000000 duration 5400000000000 users 4 5 other begin 90000000000 grace 1500000000 script 0 of 1 rate 20 unit 2000000000 duration 5400000000000 users 4 5
+{"options":{"scenarios":{"b":{"executor":"constant-vus","duration":"1s"},"a":{"executor":"shared-iterations","iterations":2}}},"scripts":{"default":[]}} => a begin 0 grace 30000000000 script 0 of 1 shared-iterations vus 1 iterations 2 maxDuration 600000000000 b begin 0 grace 30000000000 script 0 of 1 constant-vus vus 1 duration 1000000000
+{"options":{"scenarios":{"b":{"executor":"per-vu-iterations","vus":1000,"iterations":401},"a":{"executor":"constant-vus"}}},"scripts":{"default":[]}} => Missing /options/scenarios/a/duration
 {"options":{"scenarios":{"b":@,"a":{"executor":"constant-arrival-rate","rate":1,"duration":"1s","preAllocatedVUs":1}}},"scripts":{"second":[],"default":[]}} => a begin 0 grace 30000000000 script 0 of 2 rate 1 unit 1000000000 duration 1000000000 users 1 1 b begin 90000000000 grace 1500000000 script 1 of 2 rate 20 unit 2000000000 duration 5400000000000 users 4 5"#;
 
 // The names of good scenarios in the order of the text, of which the first begins at once, and each a millisecond
@@ -229,18 +231,35 @@ fn filled(alloc: Global, text: &str, scenario: &str) -> Result<String, Fail> {
     Ok(filled)
 }
 
-// The numbers of an executor.
+// The numbers of an executor, behind its name where it has no rate.
 fn executor_text(alloc: Global, executor: &Executor) -> Result<String, Fail> {
-    let Executor::ConstantArrivals {
-        rate,
-        unit,
-        duration,
-        pre,
-        max,
-    } = executor;
-    let mut line = format!(in alloc; "rate {rate} unit {unit} duration {duration}")?;
-    add(&mut line, format!(in alloc; "users {pre} {max}")?)?;
-    Ok(line)
+    let name = executor.name();
+    match executor {
+        Executor::SharedIterations {
+            vus,
+            iterations,
+            max_duration,
+        }
+        | Executor::PerVuIterations {
+            vus,
+            iterations,
+            max_duration,
+        } => Ok(format!(in alloc;
+            "{name} vus {vus} iterations {iterations} maxDuration {max_duration}"
+        )?),
+        Executor::ConstantVus { vus, duration } => {
+            Ok(format!(in alloc; "{name} vus {vus} duration {duration}")?)
+        }
+        Executor::ConstantArrivals {
+            rate,
+            unit,
+            duration,
+            pre,
+            max,
+        } => Ok(format!(in alloc;
+            "rate {rate} unit {unit} duration {duration} users {pre} {max}"
+        )?),
+    }
 }
 
 // A scenario, and how many scripts there are.
@@ -256,8 +275,8 @@ fn scenario_told(alloc: Global, scenario: &Scenario, scripts: u16) -> Result<Str
     Ok(line)
 }
 
-// What a document asks for, or why it is refused.
-fn told(alloc: Global, document: &str) -> Result<String, Fail> {
+/// What a document asks for, or why it is refused.
+pub fn told(alloc: Global, document: &str) -> Result<String, Fail> {
     match Options::read(alloc, document.as_bytes()) {
         Ok(options) => options_told(alloc, &options.copy(alloc)?),
         Err(fault) => refusal(alloc, &fault),

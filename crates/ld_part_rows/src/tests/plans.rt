@@ -13,7 +13,8 @@ use std::test::Fail;
 // two users and at most five; four in a second for one user; as many as there may be, one more, a million, and more
 // than any number tells. Then tests of two scenarios: a thousand users together, and one more; twice 600 users, the
 // later ones where the iterations of the others have to have ended, and a nanosecond earlier; and too many arrivals of
-// the greater scenario, beside too many users.
+// the greater scenario, beside too many users. Then five iterations that two users share, two iterations of each of three
+// users, and three constant users.
 const TESTS: &str =
     r#"small {"options":{"scenarios":{"main":{"executor":"constant-arrival-rate","rate":2,"timeUnit":"1s","duration":"1s","preAllocatedVUs":1,"maxVUs":2}}},"scripts":{"default":[]}}
 late {"options":{"scenarios":{"late":{"executor":"constant-arrival-rate","startTime":"5s","gracefulStop":"10s","rate":10,"timeUnit":"1s","duration":"1s","preAllocatedVUs":2,"maxVUs":5}}},"scripts":{"default":[]}}
@@ -26,16 +27,25 @@ thousand {"options":{"scenarios":{"main":{"executor":"constant-arrival-rate","ra
 crowd {"options":{"scenarios":{"main":{"executor":"constant-arrival-rate","rate":2,"duration":"1s","preAllocatedVUs":600},"also":{"executor":"constant-arrival-rate","rate":3,"duration":"1s","preAllocatedVUs":1,"maxVUs":401}}},"scripts":{"default":[]}}
 in_turn {"options":{"scenarios":{"main":{"executor":"constant-arrival-rate","rate":2,"duration":"1s","preAllocatedVUs":600},"next":{"executor":"constant-arrival-rate","startTime":"31s","rate":3,"duration":"1s","preAllocatedVUs":600}}},"scripts":{"default":[]}}
 overlap {"options":{"scenarios":{"main":{"executor":"constant-arrival-rate","rate":2,"duration":"1s","preAllocatedVUs":600},"next":{"executor":"constant-arrival-rate","startTime":"30999999999ns","rate":3,"duration":"1s","preAllocatedVUs":600}}},"scripts":{"default":[]}}
-greater {"options":{"scenarios":{"next":{"executor":"constant-arrival-rate","rate":400001,"duration":"1s","preAllocatedVUs":600},"main":{"executor":"constant-arrival-rate","rate":2,"duration":"1s","preAllocatedVUs":600}}},"scripts":{"default":[]}}"#;
+greater {"options":{"scenarios":{"next":{"executor":"constant-arrival-rate","rate":400001,"duration":"1s","preAllocatedVUs":600},"main":{"executor":"constant-arrival-rate","rate":2,"duration":"1s","preAllocatedVUs":600}}},"scripts":{"default":[]}}
+shared {"options":{"scenarios":{"main":{"executor":"shared-iterations","vus":2,"iterations":5}}},"scripts":{"default":[]}}
+each {"options":{"scenarios":{"main":{"executor":"per-vu-iterations","vus":3,"iterations":2,"maxDuration":"1m"}}},"scripts":{"default":[]}}
+steady {"options":{"scenarios":{"main":{"executor":"constant-vus","vus":3,"duration":"1s"}}},"scripts":{"default":[]}}"#;
 
 // A test, a segment, a sequence and the journal's entries, with the position, the users, the row of the scenario, and
-// the items among the first ten that the plan owns, with their moments.
+// the items among the first ten that the plan owns, arrivals with their moments. The pattern of a third and two thirds is
+// 1, 0, 1; two users go one to each, so that the items that they share go in turn, while slots go by the pattern.
 const OWNED: &str = "\
 small 0:1 0,1 1000000 => 0: needs 1 2, begin 0 end 1000000000 hard 31000000000 users 1 2 with 2 items, owns 0 at 0 1 at 500000000
 late 0:1/4 0,1/4,1 1000000 => 0: needs 1 1, begin 5000000000 end 6000000000 hard 16000000000 users 1 1 with 2 items, owns 1 at 5100000000 6 at 5600000000
 late 1/4:1 0,1/4,1 1000000 => 1: needs 1 4, begin 5000000000 end 6000000000 hard 16000000000 users 1 4 with 8 items, owns 0 at 5000000000 2 at 5200000000 3 at 5300000000 4 at 5400000000 5 at 5500000000 7 at 5700000000 8 at 5800000000 9 at 5900000000
 lonely 0:1/4 0,1/4,1 10 => 0: needs 0 0, begin 0 end 1000000000 hard 31000000000 users 0 0 with 0 items, owns
-lonely 1/4:1 0,1/4,1 10 => 1: needs 0 1, begin 0 end 1000000000 hard 31000000000 users 0 1 with 4 items, owns 0 at 0 1 at 250000000 2 at 500000000 3 at 750000000";
+lonely 1/4:1 0,1/4,1 10 => 1: needs 0 1, begin 0 end 1000000000 hard 31000000000 users 0 1 with 4 items, owns 0 at 0 1 at 250000000 2 at 500000000 3 at 750000000
+shared 0:1/3 0,1/3,1 1000000 => 0: needs 1 1, begin 0 end 600000000000 hard 630000000000 users 1 1 with 3 items, owns 0 2 4
+shared 1/3:1 0,1/3,1 1000000 => 1: needs 1 1, begin 0 end 600000000000 hard 630000000000 users 1 1 with 2 items, owns 1 3
+each 0:1/3 0,1/3,1 1000000 => 0: needs 1 1, begin 0 end 60000000000 hard 90000000000 users 1 1 with 2 items, owns 2 3
+each 1/3:1 0,1/3,1 1000000 => 1: needs 2 2, begin 0 end 60000000000 hard 90000000000 users 2 2 with 4 items, owns 0 1 4 5
+steady 1/3:1 0,1/3,1 10 => 1: needs 2 2, begin 0 end 1000000000 hard 31000000000 users 2 2 with 0 items, owns";
 
 // The same, with the entries, the number of scenarios, the name of the first, how many of its items the plan owns, its
 // grace and its sample room; and of what the plan was made of, the numbers of scripts and scenarios, and the sequence.
@@ -49,7 +59,7 @@ late 0:1/4 0,1/4,1 1000000 => 1@100000000 6@600000000 none";
 
 // The same, with why there is no plan: segments that are none of the sequence, and periods that are too large; they
 // come before too many arrivals, over the whole test; then too many users of all scenarios at one moment, over the
-// whole test; and then a journal that is too small for the owned arrivals.
+// whole test; and then a journal that is too small for the owned items.
 const REFUSED: &str = "\
 small 0:1/2 0,1/2,1 10 => planned
 small 0:1/2 0,1/3,1 10 => NotInSequence
@@ -76,7 +86,11 @@ crowd 0:1 0,1 10 => TooManyUsers(1001)
 crowd 0:1/4 0,1/4,1 12 => TooManyUsers(1001)
 in_turn 0:1 0,1 12 => planned
 overlap 0:1 0,1 12 => TooManyUsers(1200)
-greater 0:1 0,1 10 => TooManyArrivals { scenario: 1, count: 400001 }";
+greater 0:1 0,1 10 => TooManyArrivals { scenario: 1, count: 400001 }
+shared 0:1 0,1 10 => JournalTooSmall { needed: 11, limit: 10 }
+shared 0:1/3 0,1/3,1 10 => planned
+each 0:1 0,1 12 => JournalTooSmall { needed: 13, limit: 12 }
+steady 0:1 0,1 10 => planned";
 
 // The test of this name.
 fn test_named(name: &str) -> &'static str {
@@ -102,14 +116,24 @@ fn planned(alloc: Global, line: &str) -> Result<Result<Plan, PlanFault>, Fail> {
     Ok(Plan::of(alloc, options, segment, filled, entries))
 }
 
-// Puts the moment of an item behind others, if the plan owns it.
+// Puts an item behind others, if the plan owns it, and an arrival with its moment.
 fn put_owned(alloc: Global, line: &mut String, plan: &Plan, item: u64) -> Result<(), Fail> {
     let _ = plan.scenarios();
     if item < plan.whole_items(0) && plan.owns(0, item) {
-        let moment = plan.moment(0, item);
-        add(line, format!(in alloc; "{item} at {moment}")?)?;
+        add(line, item_told(alloc, plan, item)?)?;
     }
     Ok(())
+}
+
+// An item, and when it is due where it is an arrival.
+fn item_told(alloc: Global, plan: &Plan, item: u64) -> Result<String, Fail> {
+    let _ = plan.scenarios();
+    if item < plan.arrivals(0) {
+        let moment = plan.moment(0, item);
+        Ok(format!(in alloc; "{item} at {moment}")?)
+    } else {
+        Ok(format!(in alloc; "{item}")?)
+    }
 }
 
 // The moments of a row.
@@ -213,6 +237,7 @@ fn ticks_told(alloc: Global, plan: &Plan) -> Result<String, Fail> {
     let _ = plan.scenarios();
     match plan.owned_part(alloc, 0)? {
         OwnedPart::Rates { mut ticker, .. } => ticker_told(alloc, &mut ticker),
+        _ => said(alloc, "no arrivals"),
     }
 }
 

@@ -3,11 +3,23 @@
 use std::test::Fail;
 
 // Tests, each behind its name: three arrivals in a second; four for two users; and two arrivals in each of two
-// scenarios, of which the later one begins when the last iteration of the first has to have ended.
+// scenarios, of which the later one begins when the last iteration of the first has to have ended. Then constant users,
+// shared iterations and iterations of each user; two scenarios of constant users, of which the second begins after the
+// first one's last iteration has ended, or beside it; and three scenarios of three executors.
 const TESTS: &str =
     r#"three {"options":{"scenarios":{"main":{"executor":"constant-arrival-rate","rate":3,"duration":"1s","preAllocatedVUs":1}}},"scripts":{"default":[]}}
 four {"options":{"scenarios":{"main":{"executor":"constant-arrival-rate","rate":4,"duration":"1s","preAllocatedVUs":2}}},"scripts":{"default":[]}}
-in-turn {"options":{"scenarios":{"second":{"executor":"constant-arrival-rate","startTime":"31s","rate":2,"duration":"1s","preAllocatedVUs":1,"maxVUs":2},"first":{"executor":"constant-arrival-rate","rate":2,"duration":"1s","preAllocatedVUs":1,"maxVUs":2}}},"scripts":{"default":[]}}"#;
+in-turn {"options":{"scenarios":{"second":{"executor":"constant-arrival-rate","startTime":"31s","rate":2,"duration":"1s","preAllocatedVUs":1,"maxVUs":2},"first":{"executor":"constant-arrival-rate","rate":2,"duration":"1s","preAllocatedVUs":1,"maxVUs":2}}},"scripts":{"default":[]}}
+three-users {"options":{"scenarios":{"main":{"executor":"constant-vus","vus":3,"duration":"1s"}}},"scripts":{"default":[]}}
+ten-shared {"options":{"scenarios":{"main":{"executor":"shared-iterations","vus":1,"iterations":10}}},"scripts":{"default":[]}}
+five-shared {"options":{"scenarios":{"main":{"executor":"shared-iterations","vus":2,"iterations":5}}},"scripts":{"default":[]}}
+two-each {"options":{"scenarios":{"main":{"executor":"per-vu-iterations","vus":3,"iterations":2}}},"scripts":{"default":[]}}
+three-each {"options":{"scenarios":{"main":{"executor":"per-vu-iterations","vus":1,"iterations":3,"maxDuration":"3s"}}},"scripts":{"default":[]}}
+graceful {"options":{"scenarios":{"main":{"executor":"constant-vus","vus":1,"duration":"1s","gracefulStop":"500ms"}}},"scripts":{"default":[]}}
+steady {"options":{"scenarios":{"main":{"executor":"constant-vus","vus":1,"duration":"10s"}}},"scripts":{"default":[]}}
+after {"options":{"scenarios":{"a":{"executor":"constant-vus","vus":2,"duration":"10s","gracefulStop":"5s"},"b":{"executor":"constant-vus","vus":2,"startTime":"15s","duration":"1s"}}},"scripts":{"default":[]}}
+beside {"options":{"scenarios":{"a":{"executor":"constant-vus","vus":2,"duration":"10s","gracefulStop":"5s"},"b":{"executor":"constant-vus","vus":2,"startTime":"14s","duration":"1s"}}},"scripts":{"default":[]}}
+mixed {"options":{"scenarios":{"a":{"executor":"constant-arrival-rate","rate":2,"duration":"1s","preAllocatedVUs":1},"b":{"executor":"shared-iterations","vus":1,"iterations":2},"c":{"executor":"constant-vus","vus":1,"duration":"1s"}}},"scripts":{"default":[]}}"#;
 
 // Journals, each behind a line with its name:
 // - `one-user`: two arrivals with one user; the second is dropped, since the first is under way;
@@ -18,7 +30,13 @@ in-turn {"options":{"scenarios":{"second":{"executor":"constant-arrival-rate","s
 // - `minute`: two arrivals in a minute, with iterations of 1,500 milliseconds;
 // - `first-half` and `second-half`: the halves of the test `four`, with iterations of 100 milliseconds;
 // - `in-turn`: the test `in-turn`, with iterations of a second: a second user is made for the first scenario, and the
-//   second scenario takes both.
+//   second scenario takes both;
+// - `three-each`: three iterations of one user, of two seconds each: the third has no time to begin, and is dropped;
+// - `graceful` and `cut-off`: an iteration that ends with its scenario's grace, and one that would end later;
+// - `steady`: iterations of a second, with room for ten entries, of which the last is needed for the next return;
+// - `after`: the test `after`, with iterations of 8 seconds: the second scenario takes the first one's users;
+// - `five-shared` and `half-shared`: five iterations of a second that two users share, and the second half of them;
+// - `mixed`: the test `mixed`, with iterations of 400 milliseconds: an arrival is due before the users' next iterations.
 const JOURNALS: &str = r#"# one-user
 ldjournal 1
 test 188
@@ -167,6 +185,164 @@ entries 1000000
 17 0 32500000000 release 1 2
 18 0 32500000000 close 1
 end 18
+# three-each
+ldjournal 1
+test 134
+{"options":{"scenarios":{"main":{"executor":"per-vu-iterations","vus":1,"iterations":3,"maxDuration":"3s"}}},"scripts":{"default":[]}}
+segment 0:1
+sequence 0,1
+entries 1000000
+1 0 0 take 0 1 0
+2 0 0 start 0 1 0 33000000000
+3 0 2000000000 return 0 1 0 done 0
+4 0 2000000000 start 0 1 1 33000000000
+5 0 3000000000 drop 0 2
+6 0 4000000000 return 0 1 1 done 0
+7 0 4000000000 release 0 1
+8 0 4000000000 close 0
+end 8
+# graceful
+ldjournal 1
+test 134
+{"options":{"scenarios":{"main":{"executor":"constant-vus","vus":1,"duration":"1s","gracefulStop":"500ms"}}},"scripts":{"default":[]}}
+segment 0:1
+sequence 0,1
+entries 1000000
+1 0 0 take 0 1 0
+2 0 0 start 0 1 0 1500000000
+3 0 1500000000 return 0 1 0 done 0
+4 0 1500000000 release 0 1
+5 0 1500000000 close 0
+end 5
+# cut-off
+ldjournal 1
+test 134
+{"options":{"scenarios":{"main":{"executor":"constant-vus","vus":1,"duration":"1s","gracefulStop":"500ms"}}},"scripts":{"default":[]}}
+segment 0:1
+sequence 0,1
+entries 1000000
+1 0 0 take 0 1 0
+2 0 0 start 0 1 0 1500000000
+3 0 1500000000 return 0 1 0 interrupted 0
+4 0 1500000000 release 0 1
+5 0 1500000000 close 0
+end 5
+# steady
+ldjournal 1
+test 112
+{"options":{"scenarios":{"main":{"executor":"constant-vus","vus":1,"duration":"10s"}}},"scripts":{"default":[]}}
+segment 0:1
+sequence 0,1
+entries 10
+1 0 0 take 0 1 0
+2 0 0 start 0 1 0 40000000000
+3 0 1000000000 return 0 1 0 done 0
+4 0 1000000000 start 0 1 0 40000000000
+5 0 2000000000 return 0 1 0 done 0
+6 0 2000000000 start 0 1 0 40000000000
+7 0 3000000000 return 0 1 0 done 0
+8 0 3000000000 start 0 1 0 40000000000
+9 0 4000000000 return 0 1 0 done 0
+end 9
+# after
+ldjournal 1
+test 203
+{"options":{"scenarios":{"a":{"executor":"constant-vus","vus":2,"duration":"10s","gracefulStop":"5s"},"b":{"executor":"constant-vus","vus":2,"startTime":"15s","duration":"1s"}}},"scripts":{"default":[]}}
+segment 0:1
+sequence 0,1
+entries 1000000
+1 0 0 take 0 1 0
+2 0 0 take 0 2 1
+3 0 0 start 0 1 0 15000000000
+4 0 0 start 0 2 1 15000000000
+5 0 8000000000 return 0 1 0 done 0
+6 0 8000000000 return 0 2 1 done 0
+7 0 8000000000 start 0 1 0 15000000000
+8 0 8000000000 start 0 2 1 15000000000
+9 0 15000000000 return 0 1 0 interrupted 0
+10 0 15000000000 return 0 2 1 interrupted 0
+11 0 15000000000 release 0 1
+12 0 15000000000 release 0 2
+13 0 15000000000 take 1 1 0
+14 0 15000000000 take 1 2 1
+15 0 15000000000 start 1 1 0 46000000000
+16 0 15000000000 start 1 2 1 46000000000
+17 0 15000000000 close 0
+18 0 23000000000 return 1 1 0 done 0
+19 0 23000000000 return 1 2 1 done 0
+20 0 23000000000 release 1 1
+21 0 23000000000 release 1 2
+22 0 23000000000 close 1
+end 22
+# five-shared
+ldjournal 1
+test 115
+{"options":{"scenarios":{"main":{"executor":"shared-iterations","vus":2,"iterations":5}}},"scripts":{"default":[]}}
+segment 0:1
+sequence 0,1
+entries 1000000
+1 0 0 take 0 1 0
+2 0 0 take 0 2 1
+3 0 0 start 0 1 0 630000000000
+4 0 0 start 0 2 1 630000000000
+5 0 1000000000 return 0 1 0 done 0
+6 0 1000000000 return 0 2 1 done 0
+7 0 1000000000 start 0 1 2 630000000000
+8 0 1000000000 start 0 2 3 630000000000
+9 0 2000000000 return 0 1 2 done 0
+10 0 2000000000 return 0 2 3 done 0
+11 0 2000000000 start 0 1 4 630000000000
+12 0 2000000000 release 0 2
+13 0 3000000000 return 0 1 4 done 0
+14 0 3000000000 release 0 1
+15 0 3000000000 close 0
+end 15
+# half-shared
+ldjournal 1
+test 115
+{"options":{"scenarios":{"main":{"executor":"shared-iterations","vus":2,"iterations":5}}},"scripts":{"default":[]}}
+segment 1/2:1
+sequence 0,1/2,1
+entries 1000000
+1 0 0 take 0 1 0
+2 0 0 start 0 1 1 630000000000
+3 0 1000000000 return 0 1 1 done 0
+4 0 1000000000 start 0 1 3 630000000000
+5 0 2000000000 return 0 1 3 done 0
+6 0 2000000000 release 0 1
+7 0 2000000000 close 0
+end 7
+# mixed
+ldjournal 1
+test 254
+{"options":{"scenarios":{"a":{"executor":"constant-arrival-rate","rate":2,"duration":"1s","preAllocatedVUs":1},"b":{"executor":"shared-iterations","vus":1,"iterations":2},"c":{"executor":"constant-vus","vus":1,"duration":"1s"}}},"scripts":{"default":[]}}
+segment 0:1
+sequence 0,1
+entries 1000000
+1 0 0 take 0 1 0
+2 0 0 take 1 2 0
+3 0 0 take 2 3 0
+4 0 0 start 0 1 0 31000000000
+5 0 0 start 1 2 0 630000000000
+6 0 0 start 2 3 0 31000000000
+7 0 400000000 return 0 1 0 done 0
+8 0 400000000 return 1 2 0 done 0
+9 0 400000000 return 2 3 0 done 0
+10 0 400000000 start 1 2 1 630000000000
+11 0 400000000 start 2 3 0 31000000000
+12 0 500000000 start 0 1 1 31000000000
+13 0 800000000 return 1 2 1 done 0
+14 0 800000000 return 2 3 0 done 0
+15 0 800000000 release 1 2
+16 0 800000000 start 2 3 0 31000000000
+17 0 800000000 close 1
+18 0 900000000 return 0 1 1 done 0
+19 0 1000000000 release 0 1
+20 0 1000000000 close 0
+21 0 1200000000 return 2 3 0 done 0
+22 0 1200000000 release 2 3
+23 0 1200000000 close 2
+end 23
 "#;
 
 /// The test of this name, or else the text itself.

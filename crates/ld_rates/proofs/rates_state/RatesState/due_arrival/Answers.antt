@@ -13,7 +13,7 @@ pub returns-then-saturating_add-reading-clause-shown : goal.returns-then-saturat
 returns-then-saturating_add-reading-clause-shown c s shows =
     let first : slice_get c.args.self.now.waiting 0 ≡ Some (c.in_ok-item.item, c.in_ok-item.moment) = search rules in
     let running : runs s ≡ true = search rules in
-    let now : nat_le (moment_after c.args.self.now.begin c.in_ok-item.moment) c.args.reading ≡ true = search rules in
+    let now : nat_le (moment_after c.args.self.now.course.begin c.in_ok-item.moment) c.args.reading ≡ true = search rules in
     let shown = due_shown c.args.self.now s c.args.reading (c.in_ok-item.item, c.in_ok-item.moment) shows running first in
     rw now at shown
 
@@ -21,6 +21,6 @@ pub returns-else-saturating_add-reading-clause-shown : goal.returns-else-saturat
 returns-else-saturating_add-reading-clause-shown c s shows =
     let first : slice_get c.args.self.now.waiting 0 ≡ Some (c.in_ok-item.item, c.in_ok-item.moment) = search rules in
     let running : runs s ≡ true = search rules in
-    let later : nat_le (moment_after c.args.self.now.begin c.in_ok-item.moment) c.args.reading ≡ false = search rules in
+    let later : nat_le (moment_after c.args.self.now.course.begin c.in_ok-item.moment) c.args.reading ≡ false = search rules in
     let shown = due_shown c.args.self.now s c.args.reading (c.in_ok-item.item, c.in_ok-item.moment) shows running first in
     rw later at shown

@@ -1,0 +1,8 @@
+//! The course of a scenario: when it runs, and what stops it, whichever its executor is.
+#![tactic(auto)]
+
+mod course;
+mod level;
+
+pub use course::{Course, above};
+pub use level::Level;

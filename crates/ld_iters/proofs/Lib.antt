@@ -1,0 +1,14 @@
+pub mod OwnedLemmas
+pub mod SharedLemmas
+pub mod SharedApplyLemmas
+pub mod SharedOpeningLemmas
+pub mod NumbersLemmas
+pub mod SlotItemsLemmas
+pub mod WorkLemmas
+pub mod HeldSlotsLemmas
+pub mod SlotsApplyLemmas
+pub mod SlotsLemmas
+pub mod SlotsTellLemmas
+pub mod SlotsOpeningLemmas
+pub mod ShownLemmas
+pub mod StateLemmas
