@@ -1,3 +1,5 @@
+pub mod LeastLemmas
+pub mod RampLemmas
 pub mod CountLemmas
 pub mod TickerLemmas
 pub mod ScheduleLaws

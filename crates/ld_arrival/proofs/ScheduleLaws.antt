@@ -1,8 +1,7 @@
 -- What is in a schedule and in the part of a position, and that the parts are the whole.
-use Rattle.std.proofs.Common.{◌≡◌, ◌<◌, ◌≤◌, ◌+◌, ◌*◌, ◌/◌, ◌↔◌, ◌∙◌, ℕ, Bool, true, zero, suc, List, [], ◌∷◌, ◌++◌, cond, inl, inr, length, map, nat_eq, not, arith, refl, ap, sym, subst, ap₂}
+use Rattle.std.proofs.Common.{◌≡◌, ◌<◌, ◌≤◌, ◌+◌, ◌↔◌, ◌∙◌, ℕ, Bool, true, zero, suc, List, [], ◌∷◌, ◌++◌, cond, inl, inr, length, map, nat_eq, not, arith, refl, ap, sym, subst, ap₂}
 use Rattle.std.specs.List.{All, Contains, count_by, sum_by, filter, flat_map, range_with_len}
 use Rattle.std.specs.List.Sorted.{IsPermutation}
-use Rattle.std.proofs.Math.Nat.{div-mul-le_self, div-zero, le-div_iff_mul-le, mul-le-mul_right}
 use Rattle.std.proofs.Math.Decide.{dec_lt}
 use Rattle.std.proofs.lemmas.Bool.{both_ways, cases_Bool, eq-eqb, ne_eqb, eqb-true, false≢true}
 use Rattle.std.proofs.lemmas.List.Concat.{flat_map-cons}
@@ -13,18 +12,8 @@ use Rattle.std.proofs.lemmas.List.Sorted.{Contains-permutation, IsPermutation-ap
 use Rattle.ld_stripe.specs.Striping.{owner_at, share_at}
 use Rattle.ld_arrival.specs.Limits.{IsWithinLimits}
 use Rattle.ld_arrival.specs.Schedule.{arrival_at, owned_pairs, schedule}
-use Rattle.ld_arrival.specs.Timetable.{Timetable, Constant, IsPlanned, moment_of, planned, planned_count}
+use Rattle.ld_arrival.specs.Timetable.{Timetable, IsPlanned, moment_of, planned, planned_count}
 use Rattle.ld_arrival.proofs.CountLemmas.{counted}
-
--- quotients of one divisor don't fall
-div_rises : (a b d : ℕ) → a ≤ b → a / d ≤ b / d
-div_rises a b zero within = let left = div-zero a in omega arith
-div_rises a b (suc d) within =
-    let part = div-mul-le_self a (suc d) in
-    (le-div_iff_mul-le {k = suc d} {x = a / suc d} {y = b} (omega arith)).1 (omega arith)
-
-pub moments_rise : (timetable : Timetable) (j k : ℕ) → j ≤ k → moment_of timetable j ≤ moment_of timetable k
-moments_rise (Constant rate unit duration) j k within = div_rises (j * unit) (k * unit) rate (mul-le-mul_right unit within)
 
 -- of numbers below n, f gives what the list of all f k has
 in_front : {X : Type 0} (f : ℕ → X) (n : ℕ) (x : X) → Contains (map f (range_with_len 0 n)) x ↔ ((k : ℕ) × (k < n) × (f k ≡ x))

@@ -1,5 +1,9 @@
+pub mod Ramp
 pub mod Timetable
 pub mod Limits
 pub mod ConstantRate
+pub mod RampStage
+pub mod RampingRate
+pub mod Rates
 pub mod ArrivalFault
 pub mod Schedule

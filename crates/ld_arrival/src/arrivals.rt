@@ -2,6 +2,9 @@ ghost use Rattle.std.specs.Prelude.{◌≡◌, ◌-◌, ◌^◌, min};
 
 use crate::constant_rate::ConstantRate;
 use crate::fault::ArrivalFault;
+use crate::ramping_rate::RampingRate;
+use crate::rates::Rates;
+use ld_base::Stage;
 use std::alloc::Global;
 use std::marker::Model;
 
@@ -12,7 +15,7 @@ const MOST_ARRIVALS: u128 = 400_000;
 /// as their timetable.
 #[derive(Drop)]
 pub struct Arrivals {
-    rate: ConstantRate,
+    rates: Rates,
     count: u64,
 }
 
@@ -21,16 +24,16 @@ impl Model for Arrivals {
 
     ghost Value = { Timetable };
 
-    ghost use Rattle.ld_arrival.specs.ConstantRate.{timetable_of, IsCounted};
+    ghost use Rattle.ld_arrival.specs.Rates.{timetable_of, IsCounted};
 
-    ghost view = { λ a. timetable_of a.rate };
+    ghost view = { λ a. timetable_of a.rates };
 
-    ghost invariant = { λ a. IsCounted (timetable_of a.rate) a.count };
+    ghost invariant = { λ a. IsCounted (timetable_of a.rates) a.count };
 }
 
 impl Arrivals {
-    ghost use Rattle.std.specs.Prelude.{◌≡◌, ◌≢◌, ◌<◌, ◌≤◌, ◌↔◌, ℕ, IfOk, IfErr};
-    ghost use Rattle.ld_arrival.specs.Timetable.{Constant, IsPlanned, moment_of, end_of, planned_count};
+    ghost use Rattle.std.specs.Prelude.{◌≡◌, ◌≢◌, ◌<◌, ◌≤◌, ◌↔◌, ℕ, IfOk, IfErr, length};
+    ghost use Rattle.ld_arrival.specs.Timetable.{Constant, Ramping, IsPlanned, moment_of, end_of, planned_count};
     ghost use Rattle.ld_arrival.specs.Limits.{IsWithinLimits, most_arrivals};
     ghost use Rattle.ld_arrival.specs.ArrivalFault.{IsRefusal};
     ghost use Rattle.ld_arrival.specs.declared.fault.ArrivalFault.{ArrivalFault};
@@ -62,7 +65,45 @@ impl Arrivals {
             return Err(ArrivalFault::TooManyArrivals(capped(count)));
         }
         let count = count as u64;
-        Ok(Arrivals { rate, count })
+        Ok(Arrivals {
+            rates: Rates::Constant(rate),
+            count,
+        })
+    }
+
+    /// Arrivals at a rate that goes in a straight line from `start_rate` to the target of the first
+    /// stage, reached at its end, and on from there to the next; a stage of length 0 jumps. Rates are
+    /// arrivals in each `unit`, which is in nanoseconds. There are at most 100 stages.
+    ///
+    /// Refused are, in this order, a rate over 1,000,000; a unit that isn't above 0 and at most 1 day,
+    /// or stages that together last more than 30 days; and more than 400,000 planned arrivals. Fails
+    /// also where there is no memory for the stages.
+    pub fn ramping(
+        alloc: Global,
+        start_rate: u64,
+        unit: u64,
+        stages: &[Stage],
+    ) -> Result<Arrivals, ArrivalFault>
+        requires { length stages.now ≤ 100 }
+        ensures timetable { IfOk result (λ arrivals. arrivals ≡ Ramping start_rate unit stages.now) }
+        ensures accepted { IfOk result (λ _. (f : ArrivalFault) → IsRefusal (Ramping start_rate unit stages.now) f → ⊥) }
+        ensures refused { IfErr result (λ f. f ≢ ArrivalFault.Memory → IsRefusal (Ramping start_rate unit stages.now) f) }
+    {
+        let rate = RampingRate {
+            start_rate,
+            unit,
+            stages: Vec::from_slice(alloc, stages)?,
+        };
+        rate.check()?;
+        let count = rate.count();
+        if count > MOST_ARRIVALS {
+            return Err(ArrivalFault::TooManyArrivals(capped(count)));
+        }
+        let count = count as u64;
+        Ok(Arrivals {
+            rates: Rates::Ramping(rate),
+            count,
+        })
     }
 
     /// How many arrivals are planned, at most 400,000: those below this number are.
@@ -82,7 +123,7 @@ impl Arrivals {
         ensures moment { result ≡ moment_of self.now k }
         ensures before { result < end_of self.now }
     {
-        self.rate.moment(k)
+        self.rates.moment(k)
     }
 }
 

@@ -1,14 +1,6 @@
 // Arrivals at a constant rate.
 use crate::fault::ArrivalFault;
-
-/// The greatest rate, in arrivals for each unit of time.
-const GREATEST_RATE: u64 = 1_000_000;
-
-/// The greatest unit of time: a day, in nanoseconds.
-const GREATEST_UNIT: u64 = 86_400_000_000_000;
-
-/// The greatest duration: 30 days, in nanoseconds.
-const GREATEST_DURATION: u64 = 2_592_000_000_000_000;
+use crate::limits::{GREATEST_DURATION, GREATEST_RATE, GREATEST_UNIT};
 
 // So many arrivals in each unit of time, for a duration. Unit and duration are in nanoseconds.
 #[derive(Clone, Copy)]

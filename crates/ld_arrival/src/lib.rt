@@ -5,6 +5,11 @@ mod arrivals;
 mod constant_rate;
 mod fault;
 mod laws;
+mod limits;
+mod ramp;
+mod ramp_stage;
+mod ramping_rate;
+mod rates;
 mod ticker;
 
 pub use arrivals::Arrivals;

@@ -2,7 +2,7 @@
 
 use crate::tests::table::{Call, add, check, first_word, may_cross, named, number};
 use ld_arrival::{ArrivalFault, Arrivals, Ticker};
-use ld_base::IndexSource;
+use ld_base::{IndexSource, Stage};
 use ld_stripe::Stripe;
 use std::alloc::Global;
 use std::test::Fail;
@@ -26,6 +26,25 @@ const ARRIVALS: &str = "\
 1000000 1000000000 1000000000 => TooManyArrivals(1000000)
 1000000 1 2592000000000000 => TooManyArrivals(18446744073709551615)";
 
+// A start rate, a unit and stages, each a target and a length, with the number of arrivals and the moments of the first
+// four, which are rounded up; or why they are refused, in the order in which they are looked at. An arrival at the end
+// isn't planned, and a stage of length 0 jumps.
+const RAMPS: &str = "\
+0 1000000000 10:1000000000 => 4: 447213596 632455533 774596670 894427191
+0 1000000000 10:0 10:500000000 => 4: 100000000 200000000 300000000 400000000
+10 1000000000 0:1000000000 => 4: 105572810 225403331 367544468 552786405
+0 1000000000 2:1000000000 2:1000000000 => 2: 1000000000 1500000000
+1000000 1000000000 1000000:400000001 => 400000: 1000 2000 3000 4000
+0 1 0:2592000000000000 => 0:
+1 1 => 0:
+1000001 0 1:1 => RateRange
+1 0 1:1 1000001:1 => RateRange
+1 0 1:1 => DurationRange
+1 86400000000001 1:1 => DurationRange
+1000000 1 1000000:2592000000000000 1000000:1 => DurationRange
+1000000 1000000000 1000000:1000000000 => TooManyArrivals(999999)
+1000000 1 1000000:2592000000000000 => TooManyArrivals(18446744073709551615)";
+
 // A rate, a unit, a duration, and a position of two with equal weights, with what its ticker gives: arrivals at their
 // moments.
 const TICKERS: &str = "\
@@ -40,20 +59,55 @@ fn arrivals(alloc: Global, line: &str) -> Result<Arrivals, ArrivalFault> {
     Arrivals::constant(alloc, number(rate), number(unit), number(duration))
 }
 
+// The stages that words say, each a target and a length.
+fn stages(alloc: Global, words: &str) -> Result<Vec<Stage>, Fail> {
+    let mut list = Vec::new(alloc);
+    for word in words.split_whitespace() {
+        let (target, length) = word.split_once(':').unwrap_or((word, ""));
+        list.push(Stage {
+            target: number(target),
+            length: number(length),
+        })?;
+    }
+    Ok(list)
+}
+
+// How many arrivals there are, and the moments of the first ones; or why there are none.
+fn shown(
+    alloc: Global,
+    arrivals: Result<Arrivals, ArrivalFault>,
+    most: u64,
+) -> Result<String, Fail> {
+    let arrivals = match arrivals {
+        Ok(arrivals) => arrivals,
+        Err(fault) => return named(alloc, fault),
+    };
+    let count = arrivals.count();
+    let mut line = format!(in alloc; "{count}:")?;
+    for k in 0..count.min(most) {
+        add(&mut line, named(alloc, arrivals.moment(k))?)?;
+    }
+    Ok(line)
+}
+
 struct Planned;
 
 impl Call for Planned {
     fn answer(alloc: Global, given: &str) -> Result<String, Fail> {
-        let arrivals = match arrivals(alloc, given) {
-            Ok(arrivals) => arrivals,
-            Err(fault) => return named(alloc, fault),
-        };
-        let count = arrivals.count();
-        let mut line = format!(in alloc; "{count}:")?;
-        for k in 0..count.min(3) {
-            add(&mut line, named(alloc, arrivals.moment(k))?)?;
-        }
-        Ok(line)
+        shown(alloc, arrivals(alloc, given), 3)
+    }
+}
+
+struct Ramped;
+
+impl Call for Ramped {
+    fn answer(alloc: Global, given: &str) -> Result<String, Fail> {
+        let (start_rate, rest) = first_word(given);
+        let (unit, words) = first_word(rest);
+        let list = stages(alloc, words)?;
+        let few = list.len().min(100);
+        let arrivals = Arrivals::ramping(alloc, number(start_rate), number(unit), &list[..few]);
+        shown(alloc, arrivals, 4)
     }
 }
 
@@ -91,6 +145,12 @@ impl Call for Ticked {
 #[test]
 fn planned_arrivals(rt: HostRuntime) -> Result<(), Fail> {
     check::<Planned, _>(&rt, ARRIVALS)
+}
+
+/// The same of rates that ramp through stages.
+#[test]
+fn ramping_arrivals(rt: HostRuntime) -> Result<(), Fail> {
+    check::<Ramped, _>(&rt, RAMPS)
 }
 
 /// The two positions of equal weights own every other arrival.

@@ -1,4 +1,4 @@
-use Rattle.ld_arrival.proofs.ScheduleLaws as lemmas
+use Rattle.ld_arrival.proofs.CountLemmas as lemmas
 use Rattle.ld_arrival.proofs.laws.moments_rise.Goals as goal
 
 pub returns : goal.returns
