@@ -6,16 +6,20 @@ use Rattle.ld_json.specs.Node.{NodeView}
 use Rattle.ld_options.specs.ConstantArrivals.{AreArrivals, rates}
 use Rattle.ld_options.specs.Document.{AreOptionsOf, root_of}
 use Rattle.ld_options.specs.Executors.{IsExecutor, executor_kind}
-use Rattle.ld_options.specs.Fields.{given, number, ranged}
+use Rattle.ld_options.specs.Fields.{number, ranged}
 use Rattle.ld_options.specs.Scenarios.{IsScenarioOf}
 use Rattle.ld_options.specs.Times.{IsSpan, IsTime, span_text}
 use Rattle.ld_options.specs.Users.{greatest, planned_users, pre_allocated, users}
 use Rattle.ld_options.specs.declared.executor.Executor.{Executor}
 use Rattle.ld_options.specs.declared.executor.Executor.TheVariants as executors
 use Rattle.ld_options.specs.declared.fault.OptionsFault.{OptionsFault}
-use Rattle.ld_options.specs.declared.fault.OptionsFault.TheVariants as faults
+use Rattle.ld_options.specs.Faults.{of_field}
 use Rattle.ld_options.specs.declared.options.Options.{Options}
-use Rattle.ld_options.specs.declared.range.Range.{Range}
+use Rattle.ld_script.specs.Fields.{given}
+use Rattle.ld_script.specs.declared.fault.ScriptFault.{ScriptFault}
+use Rattle.ld_script.specs.declared.fault.ScriptFault.TheVariants as script
+use Rattle.ld_script.specs.declared.range.Range.{Range}
+use Rattle.ld_script.proofs.AnswerLemmas.{ok_same as same_text}
 use Rattle.ld_options.specs.declared.scenario.Scenario.{Scenario}
 use Rattle.ld_answer.proofs.RateData.{rate_data, scenario_data}
 use Rattle.ld_answer.proofs.SpanLemmas.{begin_span, grace_span, text_span}
@@ -31,7 +35,7 @@ names = codes "default" ∷ []
 
 -- ---- numbers
 
-chosen : (b : Bool) (n m : ℕ) (fault : OptionsFault) → (if b then Ok n else Err fault) ≡ Ok m → m ≡ n
+chosen : (b : Bool) (n m : ℕ) (fault : ScriptFault) → of_field (if b then Ok n else Err fault) ≡ Ok m → m ≡ n
 chosen true n m fault is = cc
 chosen false n m fault is = cc
 
@@ -40,7 +44,7 @@ kept true r m fault is = cc
 kept false r m fault is = is
 
 ranged_is : (range : Range) (path : List ℕ) (n m : ℕ) → ranged range path n ≡ Ok m → m ≡ n
-ranged_is range path n m is = chosen (nat_le range.least n && nat_le n range.most) n m (faults.Range path) is
+ranged_is range path n m is = chosen (nat_le range.least n && nat_le n range.most) n m (script.Range path) is
 
 -- ---- texts
 
@@ -50,7 +54,7 @@ ok_same a b is = cc
 time_is : (range : Range) (default : Option (List ℕ)) (node : NodeView) (name text : List ℕ) (n k : ℕ) → given span_text default node name ≡ Ok text →
     (IsSpan text k → k ≡ n) → IsTime range default node name k → k ≡ n
 time_is range default node name text n k holds once time =
-    once (subst (λ t. IsSpan t k) (ok_same time.text text (sym time.holds ∙ holds)) time.span)
+    once (subst (λ t. IsSpan t k) (same_text time.text text (sym time.holds ∙ holds)) time.span)
 
 -- ---- the script
 

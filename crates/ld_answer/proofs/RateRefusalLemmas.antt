@@ -78,7 +78,7 @@ module _ (rate unit duration pre max : ℕ) where
   no_script_fault cause (inl (inr (_, (more, _)))) = omega (arith, more)
   no_script_fault cause (inr (_, inl (inl (bad, _)))) = bad default_is_name
   no_script_fault cause (inr (_, inl (inr (_, inl (is, _))))) = no_fault _ _ is
-  no_script_fault cause (inr (_, inl (inr (_, inr (_, (steps, _)))))) = steps refl
+  no_script_fault cause (inr (_, inl (inr (_, inr (_, none))))) = none
   no_script_fault cause (inr (_, inr (_, none))) = none
 
   scripts_pass : Accepts (OfScripts (RefusesScripts (scripts_in root)))

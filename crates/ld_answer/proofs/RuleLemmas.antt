@@ -3,12 +3,14 @@ use Rattle.std.proofs.Common.{◌≡◌, ◌↔◌, inl, inr, ℕ, List, Bool, t
 use Rattle.std.specs.Prelude.{Result, ◌&&◌, if◌then◌else◌, nat_le}
 use Rattle.std.proofs.lemmas.Bool.{and_from, and_parts, le-leb, leb-true}
 use Rattle.ld_json.specs.Rules.{Accepts, Then}
-use Rattle.ld_options.specs.Faults.{Refused}
+use Rattle.ld_options.specs.Faults.{Refused, of_field, of_script}
 use Rattle.ld_options.specs.Fields.{ranged}
 use Rattle.ld_options.specs.Ranges.{IsWithin}
 use Rattle.ld_options.specs.declared.fault.OptionsFault.{OptionsFault}
 use Rattle.ld_options.specs.declared.fault.OptionsFault.TheVariants as faults
-use Rattle.ld_options.specs.declared.range.Range.{Range}
+use Rattle.ld_script.specs.declared.fault.ScriptFault.{ScriptFault}
+use Rattle.ld_script.specs.declared.fault.ScriptFault.TheVariants as script
+use Rattle.ld_script.specs.declared.range.Range.{Range}
 
 abbrev pub Rule : Type 1
 Rule = OptionsFault → Type 0
@@ -53,8 +55,8 @@ alike A C B D f first second = (
 pub not_refused : {A : Type 0} (answer : Result A OptionsFault) (x : A) → answer ≡ Ok x → Accepts (Refused answer)
 not_refused {A = A} answer x is fault refused = let e : ◌≡◌ {A = Result A OptionsFault} (Ok x) (Err fault) = sym is ∙ refused in cc
 
-tested : (b : Bool) (P : Type 0) (n : ℕ) (m fault : OptionsFault) → (b ≡ true → P) → (P → b ≡ true)
-    → Refused (if b then Ok n else Err m) fault ↔ ((P → ⊥) × (fault ≡ m))
+tested : (b : Bool) (P : Type 0) (n : ℕ) (m : ScriptFault) (fault : OptionsFault) → (b ≡ true → P) → (P → b ≡ true)
+    → Refused (of_field (if b then Ok n else Err m)) fault ↔ ((P → ⊥) × (fault ≡ of_script m))
 tested true P n m fault gives takes = ((λ is. absurd (cc)), (λ p. absurd (p.0 (gives refl))))
 tested false P n m fault gives takes = ((λ is. ((λ p. let e = takes p in cc), (cc))), (λ p. ap Err (sym p.1)))
 
@@ -62,19 +64,19 @@ tested false P n m fault gives takes = ((λ is. ((λ p. let e = takes p in cc), 
 pub ranged_refused : (range : Range) (path : List ℕ) (n : ℕ) (fault : OptionsFault)
     → Refused (ranged range path n) fault ↔ ((IsWithin range.least range.most n → ⊥) × (fault ≡ faults.Range path))
 ranged_refused range path n fault =
-    tested (nat_le range.least n && nat_le n range.most) (IsWithin range.least range.most n) n (faults.Range path) fault
+    tested (nat_le range.least n && nat_le n range.most) (IsWithin range.least range.most n) n (script.Range path) fault
     (λ e. let p = and_parts (nat_le range.least n) (nat_le n range.most) e in record { at_least = leb-true _ _ p.0; at_most = leb-true _ _ p.1 })
     (λ within. and_from _ _ (le-leb _ _ within.at_least) (le-leb _ _ within.at_most))
 
-in_range : (b : Bool) (P : Type 0) (n : ℕ) (m : OptionsFault) → (P → b ≡ true) → Accepts (λ (f : OptionsFault). (P → ⊥) × (f ≡ m))
-    → ◌≡◌ {A = Result ℕ OptionsFault} (if b then Ok n else Err m) (Ok n)
+in_range : (b : Bool) (P : Type 0) (n : ℕ) (m : ScriptFault) → (P → b ≡ true) → Accepts (λ (f : OptionsFault). (P → ⊥) × (f ≡ of_script m))
+    → ◌≡◌ {A = Result ℕ OptionsFault} (of_field (if b then Ok n else Err m)) (Ok n)
 in_range true P n m takes accepted = refl
-in_range false P n m takes accepted = absurd (accepted m ((λ p. let e = takes p in cc), refl))
+in_range false P n m takes accepted = absurd (accepted (of_script m) ((λ p. let e = takes p in cc), refl))
 
 -- and else it is the answer
 pub ranged_accepted : (range : Range) (path : List ℕ) (n : ℕ) → Accepts (λ (f : OptionsFault). (IsWithin range.least range.most n → ⊥) × (f ≡ faults.Range path)) → ranged range path n ≡ Ok n
 ranged_accepted range path n accepted =
-    in_range (nat_le range.least n && nat_le n range.most) (IsWithin range.least range.most n) n (faults.Range path)
+    in_range (nat_le range.least n && nat_le n range.most) (IsWithin range.least range.most n) n (script.Range path)
     (λ within. and_from _ _ (le-leb _ _ within.at_least) (le-leb _ _ within.at_most)) accepted
 
 -- a test before an answer is a rule before it

@@ -15,13 +15,17 @@ use Rattle.ld_num.specs.Written.{point}
 use Rattle.ld_num.proofs.DurationLemmas.{not_refused_duration, one_duration}
 use Rattle.ld_json.specs.Node.{NodeView}
 use Rattle.ld_json.specs.Pointer.{member_path}
-use Rattle.ld_options.specs.Faults.{Refused}
-use Rattle.ld_options.specs.Fields.{given}
-use Rattle.ld_options.specs.Ranges.{IsWithin}
-use Rattle.ld_options.specs.Times.{IsSpan, RefusesSpan, RefusesTime, span_text}
+use Rattle.ld_options.specs.Faults.{of_script}
+use Rattle.ld_options.specs.Times.{RefusesTime}
 use Rattle.ld_options.specs.declared.fault.OptionsFault.{OptionsFault}
 use Rattle.ld_options.specs.declared.fault.OptionsFault.TheVariants as faults
-use Rattle.ld_options.specs.declared.range.Range.{Range}
+use Rattle.ld_script.specs.Fault.{Refused}
+use Rattle.ld_script.specs.Fields.{given}
+use Rattle.ld_script.specs.Ranges.{IsWithin}
+use Rattle.ld_script.specs.Times.{IsSpan, RefusesSpan, span_text}
+use Rattle.ld_script.specs.declared.fault.ScriptFault.{ScriptFault}
+use Rattle.ld_script.specs.declared.fault.ScriptFault.TheVariants as script
+use Rattle.ld_script.specs.declared.range.Range.{Range}
 use Rattle.ld_words.specs.RateTest.{duration_text}
 
 differs : (c : ℕ) → IsInRange 48 57 c → nat_eq c point ≡ false
@@ -150,25 +154,25 @@ pub grace_is_span : IsSpan (codes "30s") 30000000000
 grace_is_span = is_span (codes "30") (codes "s") 30 1000000000 (record { some = lit< tt; all = (lit< tt, (lit< tt, tt)); value = refl }) seconds (omega arith) (omega arith)
 
 abbrev Texts : Type 0
-Texts = Result (List ℕ) OptionsFault
+Texts = Result (List ℕ) ScriptFault
 
 same_text : (answer : Texts) (a b : List ℕ) → answer ≡ Ok a → answer ≡ Ok b → a ≡ b
 same_text answer a b of_a of_b = cc
 
-never_refused : (answer : Texts) (text : List ℕ) (fault : OptionsFault) → answer ≡ Ok text → answer ≡ Err fault → ⊥
+never_refused : (answer : Texts) (text : List ℕ) (fault : ScriptFault) → answer ≡ Ok text → answer ≡ Err fault → ⊥
 never_refused answer text fault holds refused = cc
 
 -- a text that is a span of one length is refused where that is out of range
-span_refused : (range : Range) (path text : List ℕ) (n : ℕ) (fault : OptionsFault) → 0 < length text → IsSpan text n → ((k : ℕ) → IsSpan text k → k ≡ n) →
-    RefusesSpan range path text fault → (IsWithin range.least range.most n → ⊥) × (fault ≡ faults.Range path)
+span_refused : (range : Range) (path text : List ℕ) (n : ℕ) (fault : ScriptFault) → 0 < length text → IsSpan text n → ((k : ℕ) → IsSpan text k → k ≡ n) →
+    RefusesSpan range path text fault → (IsWithin range.least range.most n → ⊥) × (fault ≡ script.Range path)
 span_refused range path text n fault some span once (inl (cause, refusal, is)) = absurd (not_refused_duration text span.0 n some span.1 span.2 cause refusal)
 span_refused range path text n fault some span once (inr (k, other, outside, is)) =
     (subst (λ m. IsWithin range.least range.most m → ⊥) (once k other) outside, is)
 
-text_refused : (answer : Texts) (range : Range) (path text : List ℕ) (n : ℕ) (fault : OptionsFault) →
+text_refused : (answer : Texts) (range : Range) (path text : List ℕ) (n : ℕ) (fault : ScriptFault) →
     answer ≡ Ok text → 0 < length text → IsSpan text n → ((k : ℕ) → IsSpan text k → k ≡ n) →
     Refused answer fault ⊎ ((t : List ℕ) × (answer ≡ Ok t) × RefusesSpan range path t fault) →
-    (IsWithin range.least range.most n → ⊥) × (fault ≡ faults.Range path)
+    (IsWithin range.least range.most n → ⊥) × (fault ≡ script.Range path)
 text_refused answer range path text n fault holds some span once (inl refused) = absurd (never_refused answer text fault holds refused)
 text_refused answer range path text n fault holds some span once (inr (t, is, refuses)) =
     span_refused range path text n fault some span once (subst (λ x. RefusesSpan range path x fault) (same_text answer t text is holds) refuses)
@@ -178,6 +182,8 @@ pub time_refused : (range : Range) (default : Option (List ℕ)) (node : NodeVie
     given span_text default node name ≡ Ok text → 0 < length text → IsSpan text n → ((k : ℕ) → IsSpan text k → k ≡ n) →
     RefusesTime range default node name fault ↔ ((IsWithin range.least range.most n → ⊥) × (fault ≡ faults.Range (member_path node.path name)))
 time_refused range default node name text n fault holds some span once = (
-  λ refuses. text_refused (given span_text default node name) range (member_path node.path name) text n fault holds some span once refuses.refused,
-  λ out. record { refused = inr (text, holds, inr (n, span, out.0, out.1)) },
+  λ refuses.
+      let out = text_refused (given span_text default node name) range (member_path node.path name) text n refuses.0 holds some span once refuses.1.refused in
+      (out.0, refuses.2 ∙ ap of_script out.1),
+  λ out. (script.Range (member_path node.path name), record { refused = inr (text, holds, inr (n, span, out.0, refl)) }, out.1),
 )

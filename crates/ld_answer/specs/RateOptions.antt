@@ -9,7 +9,7 @@ use Rattle.ld_options.specs.declared.executor.Executor.TheVariants.{ConstantArri
 use Rattle.ld_options.specs.declared.fault.OptionsFault.{OptionsFault}
 use Rattle.ld_options.specs.declared.fault.OptionsFault.TheVariants as faults
 use Rattle.ld_options.specs.declared.options.Options.{Options}
-use Rattle.ld_options.specs.declared.range.Range.{Range}
+use Rattle.ld_script.specs.declared.range.Range.{Range}
 use Rattle.ld_options.specs.declared.scenario.Scenario.{Scenario}
 
 -- the scenario `main` at a constant rate of arrivals, from the beginning on, with 30 seconds of grace, whose users

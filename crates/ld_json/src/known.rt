@@ -29,8 +29,8 @@ pub fn first_unknown<'a>(members: &'a Map<String, Value>, known: &[&str]) -> Opt
     None
 }
 
-// Whether a name is one of these.
-fn is_one_of(known: &[&str], name: &str) -> bool
+/// Whether a name is one of these.
+pub fn is_one_of(known: &[&str], name: &str) -> bool
     ensures { result ≡ is_one_of (map (λ (piece : Bor (List ℕ)). piece.now) known.now) name.now }
 {
     for piece in known {

@@ -11,5 +11,6 @@ mod whole;
 
 pub use doc::Doc;
 pub use fault::JsonFault;
+pub use known::is_one_of;
 pub use node::Node;
 pub use path::Path;

@@ -96,6 +96,19 @@ impl<'a> Node<'a> {
         }
     }
 
+    /// The text that the value is, lent.
+    ///
+    /// Fails as `WrongKind` where it is no text, and where memory is missing.
+    pub fn str(&self, alloc: Global) -> Result<&str, JsonFault>
+        ensures ok { IfOk result (λ text. of_kind as_str self.now ≡ Ok text.now) }
+        ensures err { IfErr result (λ fault. (fault ≡ Memory → ⊥) → of_kind as_str self.now ≡ Err fault) }
+    {
+        match self.value.as_str() {
+            Some(text) => Ok(text),
+            None => Err(self.wrong_kind(alloc)),
+        }
+    }
+
     /// The whole number that the value is.
     ///
     /// Fails as `WrongKind` where it is no number, and where memory is missing.

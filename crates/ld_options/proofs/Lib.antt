@@ -1,5 +1,4 @@
 pub mod RefusalLemmas
-pub mod TimesLemmas
 pub mod ScenarioLemmas
 pub mod OneLemmas
 pub mod SizeLemmas

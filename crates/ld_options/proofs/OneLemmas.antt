@@ -13,39 +13,34 @@ use Rattle.ld_options.specs.ConstantArrivals.{AreArrivals, RefusesArrivals}
 use Rattle.ld_options.specs.ConstantUsers.{AreConstant, RefusesConstant}
 use Rattle.ld_options.specs.Executors.{IsExecutor, RefusesExecutor, executor_kind}
 use Rattle.ld_options.specs.Faults.{Refused, of_script}
-use Rattle.ld_options.specs.Fields.{given}
 use Rattle.ld_options.specs.Iterations.{ArePerUser, AreShared, RefusesEach, RefusesPerUser, RefusesShared, count_of_each}
 use Rattle.ld_options.specs.Ranges.{most_scenarios}
 use Rattle.ld_options.specs.Scenarios.{IsLost, IsScenarioOf, IsScript, RefusesFields, RefusesKnown, RefusesScenario, RefusesScript}
-use Rattle.ld_options.specs.Times.{IsSpan, IsTime, RefusesSpan, RefusesTime, span_text}
+use Rattle.ld_options.specs.Times.{RefusesTime}
 use Rattle.ld_options.specs.Users.{RefusesGreatest, greatest}
 use Rattle.ld_options.specs.declared.executor.Executor.{Executor}
 use Rattle.ld_options.specs.declared.executor.Executor.TheVariants as executors
 use Rattle.ld_options.specs.declared.fault.OptionsFault.{OptionsFault}
-use Rattle.ld_options.specs.declared.fault.OptionsFault.TheVariants.{NotJson, Number}
+use Rattle.ld_options.specs.declared.fault.OptionsFault.TheVariants.{NotJson}
 use Rattle.ld_options.specs.declared.kind.Kind.{Kind}
 use Rattle.ld_options.specs.declared.kind.Kind.TheVariants as kinds
 use Rattle.ld_options.specs.declared.options.Options.{Options}
-use Rattle.ld_options.specs.declared.range.Range.{Range}
+use Rattle.ld_script.specs.declared.range.Range.{Range}
 use Rattle.ld_options.specs.declared.scenario.Scenario.{Scenario}
 use Rattle.ld_options.proofs.RefusalLemmas.{ok_isnt_err, ok_same}
 use Rattle.ld_options.proofs.ScenarioLemmas.{one_document}
-use Rattle.ld_options.proofs.TimesLemmas.{one_cause, one_span, spans_read}
-use Rattle.ld_script.specs.Refusal.{Member, RefusesScripts, members_of}
-use Rattle.ld_script.specs.ScriptsView.{AreOrdered, ScriptsView}
+use Rattle.ld_script.specs.Refusal.{Member, members_of}
+use Rattle.ld_script.specs.ScriptsView.{AreOrdered}
 use Rattle.ld_script.proofs.NumberLemmas.{ordered_number}
-use Rattle.ld_script.proofs.OneRefusalLemmas.{IsSingle, first_single, scripts_single, then_single}
+use Rattle.ld_script.specs.declared.fault.ScriptFault.{ScriptFault}
+use Rattle.ld_script.proofs.OneScriptsLemmas.{one_scripts, one_time}
+use Rattle.ld_script.proofs.OneRefusalLemmas.{IsSingle, first_single, scripts_single, then_single, time_single as field_single}
 
 -- ---- options
 
 -- what an answer holds is one
 one_answer : {A : Type 0} (answer : Result A OptionsFault) (x y : A) → answer ≡ Ok x → answer ≡ Ok y → x ≡ y
 one_answer answer x y left right = ok_same x y (sym left ∙ right)
-
-one_time : (range : Range) (default : Option (List ℕ)) (node : NodeView) (name : List ℕ) (n m : ℕ) → IsTime range default node name n → IsTime range default node name m → n ≡ m
-one_time range default node name n m left right =
-    let same = one_answer (given span_text default node name) left.text right.text left.holds right.holds in
-    one_span right.text n m (subst (λ t. IsSpan t n) same left.span) right.span
 
 one_script : (names : List (List ℕ)) (node : NodeView) (i j : ℕ) → AreOrdered names → IsScript names node i → IsScript names node j → i ≡ j
 one_script names node i j ordered left right =
@@ -134,9 +129,6 @@ options_same a b scenarios scripts = λ i. record {
   known = is_prop→PathP (λ j. All (λ (s : Scenario). s.script < length (scripts j).names) (scenarios j)) (λ j. hlevel props) a.known b.known i;
 }
 
-scripts_same : (a b : ScriptsView) → a.names ≡ b.names → a.scripts ≡ b.scripts → a.texts ≡ b.texts → a.specs ≡ b.specs → a ≡ b
-scripts_same a b names scripts texts specs = λ i. record { names = names i; scripts = scripts i; texts = texts i; specs = specs i }
-
 -- a document means one list of options
 pub one_options : (bytes : List ℕ) (a b : Options) → AreOptions bytes a → AreOptions bytes b → a ≡ b
 one_options bytes a b left right =
@@ -144,11 +136,7 @@ one_options bytes a b left right =
     let are = subst (λ d. AreOptionsOf (root_of d) a) same left.options_are in
     options_same a b
     (one_list _ (members_of (scenarios_in (root_of right.held))) a.scenarios b.scenarios are.ordered are.scenarios_are right.options_are.scenarios_are)
-    (scripts_same a.scripts b.scripts
-    (are.scripts_are.names ∙ sym right.options_are.scripts_are.names)
-    (are.scripts_are.scripts ∙ sym right.options_are.scripts_are.scripts)
-    (are.scripts_are.texts ∙ sym right.options_are.scripts_are.texts)
-    (are.scripts_are.specs ∙ sym right.options_are.scripts_are.specs))
+    (one_scripts (scripts_in (root_of right.held)) a.scripts b.scripts are.scripts_are right.options_are.scripts_are)
 
 -- ---- refusals
 
@@ -166,11 +154,8 @@ given_single answer Refuses each f g (inr left) (inl right) = absurd (ok_isnt_er
 given_single answer Refuses each f g (inr left) (inr right) =
     each right.0 f g (subst (λ x. Refuses x f) (one_answer answer left.0 right.0 left.1 right.1) left.2) right.2
 
-span_single : (range : Range) (path text : List ℕ) → IsSingle (RefusesSpan range path text)
-span_single range path text f g (inl left) (inl right) = left.2 ∙ ap (λ c. Number path c) (one_cause text left.0 right.0 left.1 right.1) ∙ sym right.2
-span_single range path text f g (inl left) (inr right) = absurd (spans_read text left.0 right.0 right.1 left.1)
-span_single range path text f g (inr left) (inl right) = absurd (spans_read text right.0 left.0 left.1 right.1)
-span_single range path text f g (inr left) (inr right) = left.3 ∙ sym right.3
+of_scripts_single : (rule : ScriptFault → Type 0) → IsSingle rule → IsSingle (OfScripts rule)
+of_scripts_single rule single f g left right = left.2 ∙ ap of_script (single left.0 right.0 left.1 right.1) ∙ sym right.2
 
 greatest_single : (node : NodeView) → IsSingle (RefusesGreatest node)
 greatest_single node f g left right =
@@ -178,7 +163,7 @@ greatest_single node f g left right =
     refused_single (greatest right.0 node) f g (subst (λ p. Refused (greatest p node) f) same left.2) right.2
 
 time_single : (range : Range) (default : Option (List ℕ)) (node : NodeView) (name : List ℕ) → IsSingle (RefusesTime range default node name)
-time_single range default node name f g left right = given_single (given span_text default node name) (λ t fault. RefusesSpan range (member_path node.path name) t fault) (λ t. span_single range (member_path node.path name) t) f g left.refused right.refused
+time_single range default node name = of_scripts_single _ (field_single range default node name)
 
 script_single : (names : List (List ℕ)) (node : NodeView) → IsSingle (RefusesScript names node)
 script_single names node f g left right = given_single _ (λ t fault. IsLost names (member_path node.path (codes "exec")) t fault) (λ t f g left right. left.says ∙ sym right.says) f g left.refused right.refused
@@ -228,14 +213,11 @@ scenario_single : (names : List (List ℕ)) (member : Member) → IsSingle (Refu
 scenario_single names member =
     then_single _ _ (λ f g left right. left.1 ∙ sym right.1) (then_single _ _ (refused_single _) (known_single names member.1))
 
-of_scripts_single : (node : NodeView) → IsSingle (OfScripts (RefusesScripts node))
-of_scripts_single node f g left right = left.2 ∙ ap of_script (scripts_single node left.0 right.0 left.1 right.1) ∙ sym right.2
-
 document_single : (root : NodeView) → IsSingle (RefusesDocument root)
 document_single root =
     then_single _ _ (then_single _ _ (refused_single _) (then_single _ _ (refused_single _) (refused_single _)))
     (then_single _ _ (then_single _ _ (refused_single _) (refused_single _))
-    (then_single _ _ (of_scripts_single (scripts_in root))
+    (then_single _ _ (of_scripts_single _ (scripts_single (scripts_in root)))
     (first_single _ (scenario_single (script_names root)) (members_of (scenarios_in root)))))
 
 -- bytes are refused with one fault

@@ -8,7 +8,7 @@ use Rattle.ld_options.specs.Ranges.{greatest_rate}
 use Rattle.ld_options.specs.Times.{IsTime, RefusesTime, durations, units}
 use Rattle.ld_options.specs.Users.{RefusesGreatest, greatest, pre_allocated}
 use Rattle.ld_options.specs.declared.fault.OptionsFault.{OptionsFault}
-use Rattle.ld_options.specs.declared.range.Range.{Range}
+use Rattle.ld_script.specs.declared.range.Range.{Range}
 
 -- the range of its rate
 abbrev pub rates : Range

@@ -1,33 +1,29 @@
 -- Documents of tests: the options that one means, or what is refused of it first.
-use Rattle.std.specs.Prelude.{◌≡◌, ◌≢◌, ◌⊎◌, ℕ, List, [], Result, codes, length, map, unwrap_or}
+use Rattle.std.specs.Prelude.{◌≡◌, ◌≢◌, ◌⊎◌, ℕ, List, [], Result, codes, length, map}
 use Rattle.std.specs.List.{AllZip}
 use Rattle.ld_json.specs.Document.{IsDocument}
 use Rattle.ld_json.specs.Known.{allowed}
 use Rattle.ld_json.specs.Node.{NodeView, needed, paired}
 use Rattle.ld_json.specs.Pointer.{member_path}
 use Rattle.ld_json.specs.Rules.{Accepts, FirstOf, Then}
-use Rattle.ld_options.specs.Faults.{Refused, and_then, of_node, of_script}
+use Rattle.ld_options.specs.Faults.{Refused, and_then, of_node}
+pub use Rattle.ld_options.specs.Faults.{OfScripts}
 use Rattle.ld_options.specs.Fields.{ranged}
 use Rattle.ld_options.specs.Ranges.{AreInRange, most_scenarios}
 use Rattle.ld_options.specs.Scenarios.{IsScenarioOf, RefusesScenario}
 use Rattle.ld_options.specs.declared.fault.OptionsFault.{OptionsFault}
 use Rattle.ld_options.specs.declared.fault.OptionsFault.TheVariants.{Memory, NotJson}
 use Rattle.ld_options.specs.declared.options.Options.{Options}
-use Rattle.ld_options.specs.declared.range.Range.{Range}
+use Rattle.ld_script.specs.declared.range.Range.{Range}
+pub use Rattle.ld_script.specs.Members.{inside}
 use Rattle.ld_script.specs.Refusal.{Member, RefusesScripts, members_of}
 use Rattle.ld_script.specs.Scripts.{AreScriptsOf, name_of}
 use Rattle.ld_script.specs.ScriptsView.{AreOrdered, most_scripts}
-use Rattle.ld_script.specs.declared.fault.ScriptFault.{ScriptFault}
-use Rattle.serde_json.specs.Data.{Data, null}
-use Rattle.serde_json.specs.Find.{get}
+use Rattle.serde_json.specs.Data.{Data}
 
 -- the whole document
 abbrev pub root_of : Data → NodeView
 root_of d = record { value = d; path = [] }
-
--- the member of this name, or null where there is none
-abbrev pub inside : NodeView → List ℕ → NodeView
-inside node name = record { value = unwrap_or (get name node.value) null; path = member_path node.path name }
 
 abbrev pub options_in : NodeView → NodeView
 options_in root = inside root (codes "options")
@@ -66,10 +62,6 @@ pub record AreOptionsOf (root : NodeView) (options : Options) : Type 0 where
 abbrev pub RefusesOptions : NodeView → OptionsFault → Type 0
 RefusesOptions options =
     Then (Refused (of_node (allowed options (codes "scenarios")))) (Refused (counted scenario_counts options (codes "scenarios")))
-
--- a fault of scripts, as one of options
-abbrev pub OfScripts : (ScriptFault → Type 0) → OptionsFault → Type 0
-OfScripts rule fault = (cause : ScriptFault) × rule cause × (fault ≡ of_script cause)
 
 -- The document is refused: the root, then what stands in `options`, then the first script that is
 -- refused, and then the first scenario, each in byte order of names.

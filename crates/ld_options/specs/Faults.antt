@@ -3,7 +3,7 @@ use Rattle.std.specs.Prelude.{◌≡◌, Result, Ok, Err, IfOk, IfErr}
 use Rattle.ld_json.specs.declared.fault.JsonFault.{JsonFault}
 use Rattle.ld_json.specs.declared.fault.JsonFault.TheVariants as json
 use Rattle.ld_options.specs.declared.fault.OptionsFault.{OptionsFault}
-use Rattle.ld_options.specs.declared.fault.OptionsFault.TheVariants.{NotJson, Missing, WrongKind, Unknown, BadName, Range, Memory}
+use Rattle.ld_options.specs.declared.fault.OptionsFault.TheVariants.{NotJson, Missing, WrongKind, Unknown, BadName, Range, Number, Memory}
 use Rattle.ld_script.specs.declared.fault.ScriptFault.{ScriptFault}
 use Rattle.ld_script.specs.declared.fault.ScriptFault.TheVariants as script
 
@@ -31,6 +31,7 @@ of_script (script.WrongKind path) = WrongKind path
 of_script (script.Unknown path) = Unknown path
 of_script (script.BadName path) = BadName path
 of_script (script.Range path) = Range path
+of_script (script.Number path cause) = Number path cause
 of_script script.Memory = Memory
 
 -- the same answer of a node
@@ -42,3 +43,12 @@ of_node (Err fault) = Err (of_json fault)
 abbrev pub and_then : {A B : Type 0} → (A → Result B OptionsFault) → Result A OptionsFault → Result B OptionsFault
 and_then next (Ok x) = next x
 and_then next (Err fault) = Err fault
+
+-- the same answer of what is read as in scripts
+abbrev pub of_field : {A : Type 0} → Result A ScriptFault → Result A OptionsFault
+of_field (Ok x) = Ok x
+of_field (Err fault) = Err (of_script fault)
+
+-- a fault of scripts, as one of options
+abbrev pub OfScripts : (ScriptFault → Type 0) → OptionsFault → Type 0
+OfScripts rule fault = (cause : ScriptFault) × rule cause × (fault ≡ of_script cause)

@@ -10,7 +10,7 @@ use Rattle.ld_options.specs.Times.{IsTime, RefusesTime, durations}
 use Rattle.ld_options.specs.Users.{user_count}
 use Rattle.ld_options.specs.declared.fault.OptionsFault.{OptionsFault}
 use Rattle.ld_options.specs.declared.fault.OptionsFault.TheVariants as faults
-use Rattle.ld_options.specs.declared.range.Range.{Range}
+use Rattle.ld_script.specs.declared.range.Range.{Range}
 
 -- the range of a number of iterations
 abbrev pub counts : Range

@@ -4,20 +4,13 @@ use Rattle.std.specs.List.{AllByRecursion}
 use Rattle.ld_options.specs.declared.executor.Executor.{Executor}
 use Rattle.ld_options.specs.declared.executor.Executor.TheVariants.{SharedIterations, PerVuIterations, ConstantVus, ConstantArrivals}
 use Rattle.ld_options.specs.declared.scenario.Scenario.{Scenario}
+pub use Rattle.ld_script.specs.Ranges.{IsWithin, longest}
 
 -- the most scenarios of a test
 abbrev pub most_scenarios : ℕ
 most_scenarios = 20
 
--- a number is neither below the one nor above the other
-pub record IsWithin (least most n : ℕ) : Type 0 where
-  pub at_least : least ≤ n
-  pub at_most : n ≤ most
-
--- the longest span of time, 30 days, and the longest unit of time, 1 day, in nanoseconds
-abbrev pub longest : ℕ
-longest = 2592000000000000
-
+-- the longest unit of time, 1 day, in nanoseconds
 abbrev pub longest_unit : ℕ
 longest_unit = 86400000000000
 

@@ -12,7 +12,7 @@ use Rattle.ld_options.specs.Times.{IsTime, RefusesTime}
 use Rattle.ld_options.specs.declared.fault.OptionsFault.{OptionsFault}
 use Rattle.ld_options.specs.declared.fault.OptionsFault.TheVariants as faults
 use Rattle.ld_options.specs.declared.kind.Kind.{Kind}
-use Rattle.ld_options.specs.declared.range.Range.{Range}
+use Rattle.ld_script.specs.declared.range.Range.{Range}
 use Rattle.ld_options.specs.declared.scenario.Scenario.{Scenario}
 use Rattle.ld_script.specs.Name.{IsName, Lacks}
 use Rattle.ld_script.specs.Refusal.{Member}

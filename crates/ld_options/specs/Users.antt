@@ -7,7 +7,7 @@ use Rattle.ld_options.specs.Fields.{given, number, ranged}
 use Rattle.ld_options.specs.Ranges.{most_users}
 use Rattle.ld_options.specs.declared.fault.OptionsFault.{OptionsFault}
 use Rattle.ld_options.specs.declared.fault.OptionsFault.TheVariants as faults
-use Rattle.ld_options.specs.declared.range.Range.{Range}
+use Rattle.ld_script.specs.declared.range.Range.{Range}
 
 -- the range of the users that are made before a scenario begins, and that of the greatest number of users
 abbrev pub planned_users : Range

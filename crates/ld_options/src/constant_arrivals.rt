@@ -10,10 +10,10 @@ ghost use Rattle.ld_options.specs.declared.kind.Kind.TheVariants.{ConstantArriva
 use crate::executor::Executor;
 use crate::fault::OptionsFault;
 use crate::fields::number;
-use crate::range::Range;
 use crate::times::{DURATIONS, UNITS, time};
 use crate::users::{PLANNED_USERS, greatest};
 use ld_json::Node;
+use ld_script::Range;
 use std::alloc::Global;
 
 /// The range of a rate, in arrivals for each unit of time.

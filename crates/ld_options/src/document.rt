@@ -14,12 +14,11 @@ use crate::fault::OptionsFault;
 use crate::fields::ranged;
 use crate::member::scenario;
 use crate::options::Options;
-use crate::range::Range;
 use crate::scenario::Scenario;
 use crate::scenarios::Scenarios;
 use ld_base::Text;
 use ld_json::Node;
-use ld_script::Scripts;
+use ld_script::{Range, Scripts};
 use std::alloc::Global;
 
 /// How many scripts there may be.

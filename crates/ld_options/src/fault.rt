@@ -93,6 +93,7 @@ impl From<ScriptFault> for OptionsFault {
             ScriptFault::Unknown(path) => OptionsFault::Unknown(path),
             ScriptFault::BadName(path) => OptionsFault::BadName(path),
             ScriptFault::Range(path) => OptionsFault::Range(path),
+            ScriptFault::Number { path, fault } => OptionsFault::Number { path, fault },
             ScriptFault::Memory => OptionsFault::Memory,
         }
     }

@@ -1,18 +1,18 @@
-// The fields of an object.
-ghost use Rattle.std.specs.Prelude.{◌≡◌, ◌≢◌, IfErr, IfOk, None, option_copied};
+// The fields of an object, as scripts have them.
+ghost use Rattle.std.specs.Prelude.{◌≡◌, ◌≢◌, IfErr, IfOk, option_copied};
 ghost use Rattle.ld_json.specs.Node.{as_whole};
 ghost use Rattle.ld_json.specs.Pointer.{member_path};
 ghost use Rattle.ld_options.specs.Faults.{Answers};
-ghost use Rattle.ld_options.specs.Fields.{given, held, number as number_of, ranged};
+ghost use Rattle.ld_options.specs.Fields.{given, number as number_of, ranged};
 ghost use Rattle.ld_options.specs.Ranges.{IsWithin};
 ghost use Rattle.ld_options.specs.declared.fault.OptionsFault.TheVariants as faults;
 ghost use Rattle.ld_options.specs.declared.fault.OptionsFault.TheVariants.{Memory};
 ghost use Rattle.serde_json.specs.Find.{as_str};
 
 use crate::fault::OptionsFault;
-use crate::range::Range;
 use ld_base::Text;
 use ld_json::Node;
+use ld_script::Range;
 use std::alloc::Global;
 
 // The whole number of the field of this name, in its range. Without a default it is needed.
@@ -26,8 +26,7 @@ pub(crate) fn number(
     ensures answer { Answers result (number_of range default node.now name.now) }
     ensures within { IfOk result (λ n. IsWithin range.least range.most n) }
 {
-    let number = whole_given(alloc, node, name, default)?;
-    ranged(alloc, node, name, range, number)
+    Ok(ld_script::number(alloc, node, name, default, range)?)
 }
 
 // The whole number of the field of this name.
@@ -39,13 +38,7 @@ pub(crate) fn whole_given(
 ) -> Result<u64, OptionsFault>
     ensures { Answers result (given as_whole default node.now name.now) }
 {
-    if let Some(member) = node.may(alloc, name)? {
-        return Ok(member.whole(alloc)?);
-    }
-    match default {
-        Some(number) => Ok(number),
-        None => Err(OptionsFault::Missing(node.path_of(alloc, name)?)),
-    }
+    Ok(ld_script::whole_given(alloc, node, name, default)?)
 }
 
 // The number of the field of this name, where it is in its range.
@@ -60,10 +53,7 @@ pub(crate) fn ranged(
     ensures within { IfOk result (λ n. (n ≡ number) × IsWithin range.least range.most number) }
     ensures outside { IfErr result (λ f. f ≢ Memory → (IsWithin range.least range.most number → ⊥) × (f ≡ faults.Range (member_path node.now.path name.now))) }
 {
-    if number < range.least || number > range.most {
-        return Err(OptionsFault::Range(node.path_of(alloc, name)?));
-    }
-    Ok(number)
+    Ok(ld_script::ranged(alloc, node, name, range, number)?)
 }
 
 // The text of the field of this name.
@@ -75,23 +65,5 @@ pub(crate) fn text_given(
 ) -> Result<Text, OptionsFault>
     ensures { Answers result (given as_str (option_copied default.entry) node.now name.now) }
 {
-    if let Some(member) = node.may(alloc, name)? {
-        return Ok(member.text(alloc)?);
-    }
-    default_text(alloc, node, name, default)
-}
-
-// The text that stands for the field of this name where it isn't there.
-pub(crate) fn default_text(
-    alloc: Global,
-    node: &Node<'_>,
-    name: &str,
-    default: Option<&str>,
-) -> Result<Text, OptionsFault>
-    ensures { Answers result (held as_str (option_copied default.entry) (member_path node.now.path name.now) None) }
-{
-    match default {
-        Some(text) => Ok(Text::of(Vec::from_slice(alloc, text.as_bytes())?)),
-        None => Err(OptionsFault::Missing(node.path_of(alloc, name)?)),
-    }
+    Ok(ld_script::text_given(alloc, node, name, default)?)
 }

@@ -11,10 +11,10 @@ ghost use Rattle.ld_options.specs.declared.kind.Kind.TheVariants.{PerVuIteration
 use crate::executor::Executor;
 use crate::fault::OptionsFault;
 use crate::fields::number;
-use crate::range::Range;
 use crate::times::{DURATIONS, time};
 use crate::users::user_count;
 use ld_json::Node;
+use ld_script::Range;
 use std::alloc::Global;
 
 /// The range of a number of iterations, of each user and of all of them together.

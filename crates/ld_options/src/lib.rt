@@ -12,7 +12,6 @@ mod kind;
 mod laws;
 mod member;
 mod options;
-mod range;
 mod scenario;
 mod scenarios;
 mod times;

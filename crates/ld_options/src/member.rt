@@ -13,12 +13,11 @@ use crate::fault::OptionsFault;
 use crate::fields::text_given;
 use crate::iterations::{iterations_per_user, shared_iterations};
 use crate::kind::Kind;
-use crate::range::Range;
 use crate::scenario::Scenario;
 use crate::times::time;
 use ld_base::Text;
 use ld_json::Node;
-use ld_script::{Scripts, is_name};
+use ld_script::{Range, Scripts, is_name};
 use std::alloc::Global;
 
 /// The range of begins and of graces, in nanoseconds: up to 30 days.

@@ -6,8 +6,8 @@ ghost use Rattle.ld_options.specs.Users.{greatest as greatest_of, user_count};
 
 use crate::fault::OptionsFault;
 use crate::fields::{number, ranged, whole_given};
-use crate::range::Range;
 use ld_json::Node;
+use ld_script::Range;
 use std::alloc::Global;
 
 /// The range of the users that are made before the scenario begins.

@@ -1,3 +1,4 @@
+mod addresses;
 mod arrivals;
 mod documents;
 mod executors;

@@ -11,7 +11,7 @@ use Rattle.ld_segment.specs.declared.segment.Segment.{Segment}
 use Rattle.ld_stripe.specs.Striping.{Striping, IsStripingOf, shares_at}
 use Rattle.ld_machine.specs.Moment.{moment_after}
 use Rattle.ld_machine.specs.Plan.{Part}
-use Rattle.ld_script.specs.declared.script.Script.{Script}
+use Rattle.ld_script.specs.ScriptView.{ScriptView}
 use Rattle.ld_options.specs.Ranges.{AreInRange}
 use Rattle.ld_options.specs.declared.options.Options.{Options}
 use Rattle.ld_options.specs.declared.scenario.Scenario.{Scenario}
@@ -36,8 +36,8 @@ abbrev pub IsItemStriping : Striping → Scenario → Striping → Type 0
 IsItemStriping striping scenario items = IsStripingOf (shares_at striping (max_of scenario.executor)) items
 
 -- how many samples an iteration of a script may give
-abbrev pub sample_room : List Script → ℕ → ℕ
-sample_room scripts n = option_map_or (λ (s : Script). s.room) (slice_get scripts n) 0
+abbrev pub sample_room : List ScriptView → ℕ → ℕ
+sample_room scripts n = option_map_or (λ (s : ScriptView). s.room) (slice_get scripts n) 0
 
 -- the scenario of the whole test
 abbrev pub whole_of : Scenario → Whole

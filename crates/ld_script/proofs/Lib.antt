@@ -1,5 +1,12 @@
+pub mod AlongLemmas
+pub mod AnswerLemmas
+pub mod CounterLemmas
+pub mod DraftLemmas
+pub mod MemberLemmas
 pub mod NamesLemmas
 pub mod NumberLemmas
 pub mod OneRefusalLemmas
-pub mod TableLemmas
+pub mod OneScriptsLemmas
+pub mod ScriptLemmas
 pub mod TextLemmas
+pub mod TimesLemmas

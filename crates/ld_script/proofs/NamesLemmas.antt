@@ -9,10 +9,14 @@ use Rattle.std.proofs.lemmas.Slice.Eq.{bytes_eq-Decides}
 use Rattle.indexmap.specs.IndexSet.{insert_key}
 use Rattle.ld_base.specs.declared.metric.NameSpec.{NameSpec}
 use Rattle.ld_script.specs.Name.{Lacks}
-use Rattle.ld_script.specs.Names.{AreNames, NamesView, most_names, with_name}
+use Rattle.ld_script.specs.Names.{AreNames, NamesView, most_names, noted, with_name}
 
 pub some_is : {A : Type 0} → (o : Option A) (x y : A) → o ≡ Some x → o ≡ Some y → x ≡ y
 some_is o x y left right = cc
+
+or_true : (b : Bool) → (b || true) ≡ true
+or_true true = refl
+or_true false = refl
 
 both_false : (b c : Bool) → (b || c) ≡ false → (b ≡ false) × (c ≡ false)
 both_false true c p = absurd (true≢false p)
@@ -90,11 +94,31 @@ names_from texts specs = record { texts = texts; specs = specs }
 pub same_names : (texts texts_then : List (List ℕ)) (specs specs_then : List NameSpec) → texts ≡ texts_then → specs ≡ specs_then → names_from texts specs ≡ names_from texts_then specs_then
 same_names texts texts_then specs specs_then one two = ap₂ names_from one two
 
--- a new name is noted
-pub noted : (old : NamesView) (keys keys_then : List (String Global)) (text : String Global) (specs specs_then : List NameSpec) (name : List ℕ) (spec : NameSpec) → names_from (map string_bytes keys) specs ≡ old → Lacks old.texts name → string_bytes text ≡ name
+-- a name that was put to the end of the set
+pub named_last : (old : NamesView) (keys keys_then : List (String Global)) (text : String Global) (specs specs_then : List NameSpec) (name : List ℕ) (spec : NameSpec) → names_from (map string_bytes keys) specs ≡ old → Lacks old.texts name → string_bytes text ≡ name
     → keys_then ≡ insert_key string_eq keys text → specs_then ≡ specs ++ spec ∷ [] → names_from (map string_bytes keys_then) specs_then ≡ with_name old name spec
-noted old keys keys_then text specs specs_then name spec is lacks spelled keys_are specs_are =
+named_last old keys keys_then text specs specs_then name spec is lacks spelled keys_are specs_are =
     same_names (map string_bytes keys_then) (map string_bytes keys ++ name ∷ []) specs_then (specs ++ spec ∷ [])
     (ap (map string_bytes) keys_are ∙ put_last keys text name spelled (subst (λ (n : NamesView). Lacks n.texts name) (sym is) lacks))
     specs_are
     ∙ ap (λ (n : NamesView). with_name n name spec) is
+
+-- a name that is there is found among the names, and one that isn't there is not
+pub known_there : (texts : List (List ℕ)) (text : List ℕ) (k : ℕ) → slice_get texts k ≡ Some text → list_any (λ known. bytes_eq known text) texts ≡ true
+known_there [] text k is = absurd (none-some text is)
+known_there (t ∷ ts) text zero is = ap (λ b. b || list_any (λ known. bytes_eq known text) ts) ((bytes_eq-Decides t text).1 (some_is (Some t) t text refl is))
+known_there (t ∷ ts) text (suc k) is = ap (λ b. bytes_eq t text || b) (known_there ts text k is) ∙ or_true (bytes_eq t text)
+
+known_lacks : (texts : List (List ℕ)) (text : List ℕ) → Lacks texts text → list_any (λ known. bytes_eq known text) texts ≡ false
+known_lacks [] text lacks = refl
+known_lacks (t ∷ ts) text lacks =
+    ap₂ (λ b c. b || c)
+    (false_if_not (bytes_eq t text) (λ same. lacks 0 (ap (λ x. Some x) ((bytes_eq-Decides t text).0 same))))
+    (known_lacks ts text (λ k is. lacks (suc k) is))
+
+-- so the names stay, or have one more
+pub noted_there : (names : NamesView) (text : List ℕ) (spec : NameSpec) (k : ℕ) → slice_get names.texts k ≡ Some text → names ≡ noted names text spec
+noted_there names text spec k is = sym (ap (λ b. if b then names else with_name names text spec) (known_there names.texts text k is))
+
+pub noted_new : (names : NamesView) (text : List ℕ) (spec : NameSpec) → Lacks names.texts text → noted names text spec ≡ with_name names text spec
+noted_new names text spec lacks = ap (λ b. if b then names else with_name names text spec) (known_lacks names.texts text lacks)

@@ -1,6 +1,15 @@
+pub mod Address
+pub mod Along
+pub mod Draft
 pub mod Fault
+pub mod Fields
+pub mod Members
 pub mod Name
 pub mod Names
+pub mod Ranges
 pub mod Refusal
+pub mod ScriptView
 pub mod Scripts
 pub mod ScriptsView
+pub mod Step
+pub mod Times

@@ -1,5 +1,6 @@
 -- Names of scripts and scenarios.
-use Rattle.std.specs.Prelude.{◌≡◌, ◌<◌, ◌≤◌, ◌⊎◌, ℕ, List, Some, All, length, slice_get}
+use Rattle.std.specs.Prelude.{◌≡◌, ◌≢◌, ◌<◌, ◌≤◌, ◌⊎◌, ◌++◌, ℕ, List, Some, All, codes, false, length, slice_get}
+use Rattle.ld_json.specs.Known.{is_one_of, pieces}
 use Rattle.std.specs.Char.{IsAsciiAlphanumeric}
 
 -- the greatest length of a name
@@ -22,6 +23,18 @@ pub record IsName (name : List ℕ) : Type 0 where
   pub some : 0 < length name
   pub few : length name ≤ most_letters
   pub bytes : All IsNameByte name
+
+-- the metrics that every run has
+abbrev pub metric_names : List (List ℕ)
+metric_names =
+    pieces (codes "http_reqs http_req_duration http_req_failed checks iterations iteration_duration")
+    ++ pieces (codes "dropped_iterations late_iterations data_sent data_received vus vus_max")
+
+-- a counter's name is a name without hyphens, and none of a metric
+pub record IsCounterName (name : List ℕ) : Type 0 where
+  pub is_name : IsName name
+  pub plain : All (λ b. b ≢ hyphen) name
+  pub free : is_one_of metric_names name ≡ false
 
 -- this name is none of these
 abbrev pub Lacks : List (List ℕ) → List ℕ → Type 0

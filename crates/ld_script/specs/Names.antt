@@ -1,8 +1,7 @@
 -- The names that scripts use.
-use Rattle.std.specs.Prelude.{◌≡◌, ◌≢◌, ◌≤◌, ◌⊎◌, ◌++◌, ℕ, List, [], ◌∷◌, Some, length, slice_get}
-use Rattle.std.specs.List.{AllPairs}
+use Rattle.std.specs.Prelude.{◌≡◌, ◌≢◌, ◌≤◌, ◌++◌, ℕ, List, [], ◌∷◌, bytes_eq, length, if◌then◌else◌}
+use Rattle.std.specs.List.{AllPairs, list_any}
 use Rattle.ld_base.specs.declared.metric.NameSpec.{NameSpec}
-use Rattle.ld_script.specs.Name.{Lacks}
 
 -- names in the order in which they are first used, and what the samples of each are
 pub record NamesView : Type 0 where
@@ -19,12 +18,15 @@ pub record AreNames (names : NamesView) : Type 0 where
   pub paired : length names.specs ≡ length names.texts
   pub few : length names.texts ≤ most_names
 
+-- no names
+abbrev pub no_names : NamesView
+no_names = record { texts = []; specs = [] }
+
 -- the names with one more at their end
 abbrev pub with_name : NamesView → List ℕ → NameSpec → NamesView
 with_name names text spec = record { texts = names.texts ++ text ∷ []; specs = names.specs ++ spec ∷ [] }
 
--- a name that is there leaves the names as they were, and a new one goes to their end
-abbrev pub Notes : NamesView → NamesView → List ℕ → NameSpec → Type 0
-Notes old new text spec =
-    (((k : ℕ) × (slice_get old.texts k ≡ Some text)) × (new ≡ old))
-    ⊎ (Lacks old.texts text × (new ≡ with_name old text spec))
+-- the names behind the use of one, which goes to the end where it is new
+abbrev pub noted : NamesView → List ℕ → NameSpec → NamesView
+noted names text spec =
+    if list_any (λ known. bytes_eq known text) names.texts then names else with_name names text spec

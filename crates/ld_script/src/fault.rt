@@ -2,7 +2,9 @@ ghost use Rattle.std.specs.Prelude.{◌≡◌};
 ghost use Rattle.ld_script.specs.Fault.{of_json};
 ghost use Rattle.ld_script.specs.declared.fault.ScriptFault.TheVariants.{Memory};
 
+use ld_base::BaseFault;
 use ld_json::{JsonFault, Path};
+use ld_num::NumFault;
 use std::alloc::AllocError;
 use thiserror::Error;
 
@@ -27,6 +29,14 @@ pub enum ScriptFault {
     /// A value is out of its range, or a list or an object has too many items: its path.
     #[error("a value is out of range")]
     Range(Path),
+    /// A value is no span of time.
+    #[error("{fault}")]
+    Number {
+        /// The value's path.
+        path: Path,
+        /// Why its text is no span of time.
+        fault: NumFault,
+    },
     /// The allocator gave no memory.
     #[error("out of memory")]
     Memory,
@@ -43,6 +53,14 @@ impl From<JsonFault> for ScriptFault {
             JsonFault::Unknown(path) => ScriptFault::Unknown(path),
             JsonFault::Memory => ScriptFault::Memory,
         }
+    }
+}
+
+impl From<BaseFault> for ScriptFault {
+    ghost from_gives = { λ _ fault. fault ≡ Memory };
+
+    fn from(_error: BaseFault) -> ScriptFault {
+        ScriptFault::Memory
     }
 }
 

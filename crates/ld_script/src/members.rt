@@ -1,13 +1,19 @@
 // The members of the object that holds the scripts.
-ghost use Rattle.std.specs.Prelude.{◌≡◌, ◌≢◌, ◌≤◌, All, IfErr, IfOk, length, map};
-ghost use Rattle.ld_json.specs.Rules.{Accepts, FirstOf};
+ghost use Rattle.std.specs.Prelude.{◌≡◌, ◌≢◌, ◌≤◌, All, IfErr, IfOk, OnOk, length, map};
+ghost use Rattle.std.specs.List.{AllZip};
+ghost use Rattle.ld_json.specs.Rules.{Accepts};
+ghost use Rattle.ld_script.specs.Along.{FirstAlong, after};
+ghost use Rattle.ld_script.specs.Members.{members_of, name_of};
 ghost use Rattle.ld_script.specs.Name.{IsName};
-ghost use Rattle.ld_script.specs.Refusal.{RefusesScript, RefusesTable, members_of};
-ghost use Rattle.ld_script.specs.Scripts.{name_of, script_of};
+ghost use Rattle.ld_script.specs.Names.{no_names};
+ghost use Rattle.ld_script.specs.Refusal.{RefusesScript, RefusesTable, names_after};
+ghost use Rattle.ld_script.specs.Scripts.{IsScriptOf};
 ghost use Rattle.ld_script.specs.ScriptsView.{AreOrdered, most_scripts};
 ghost use Rattle.ld_script.specs.declared.fault.ScriptFault.{ScriptFault};
 
+use crate::draft::Draft;
 use crate::fault::ScriptFault;
+use crate::reading::read_script;
 use crate::script::Script;
 use ld_base::Text;
 use ld_json::Node;
@@ -35,16 +41,22 @@ pub fn members_of<'a>(
 }
 
 // The script of each member. The first of them that is refused decides.
-pub fn read_each(alloc: Global, members: &[(Text, Node<'_>)]) -> Result<Vec<Script>, ScriptFault>
-    ensures value { IfOk result (λ scripts. scripts.items ≡ map script_of members.now) }
+pub fn read_each(
+    alloc: Global,
+    members: &[(Text, Node<'_>)],
+    draft: &mut Draft,
+) -> Result<Vec<Script>, ScriptFault>
+    requires { draft.old.known.names ≡ no_names }
+    ensures value { IfOk result (λ scripts. AllZip (IsScriptOf draft.new.known.names.texts) members.now scripts.items) }
+    ensures names { OnOk result (draft.new.known.names ≡ after names_after no_names members.now) }
     ensures named { IfOk result (λ _. All IsName (map name_of members.now)) }
-    ensures accepted { IfOk result (λ _. Accepts (FirstOf RefusesScript members.now)) }
+    ensures accepted { IfOk result (λ _. Accepts (FirstAlong RefusesScript names_after no_names members.now)) }
     ensures refused { IfErr result (λ f. f ≢ ScriptFault.Memory
-        → FirstOf RefusesScript members.now f) }
+        → FirstAlong RefusesScript names_after no_names members.now f) }
 {
     let mut scripts = Vec::new(alloc);
     for (name, node) in members {
-        let script = Script::read(alloc, name, node)?;
+        let script = read_script(alloc, name, node, draft)?;
         let Ok(()) = scripts.push(script) else {
             return Err(ScriptFault::Memory);
         };

@@ -4,6 +4,9 @@ use ld_base::NameSpec;
 use std::alloc::Global;
 use std::marker::Model;
 
+/// The greatest number of names.
+const MOST_NAMES: usize = 1000;
+
 /// The names that the scripts of a test use for requests and counters, in the order in which they are
 /// first used, each with what its samples are. They are numbered from 0. There are at most 1,000.
 #[derive(Drop)]
@@ -24,14 +27,14 @@ impl Model for Names {
 }
 
 impl Names {
-    ghost use Rattle.std.specs.Prelude.{◌≡◌, ◌<◌, [], Some, IfErr, IfOk, MatchOption, OnErr, OnOk, length, slice_get};
+    ghost use Rattle.std.specs.Prelude.{◌≡◌, ◌<◌, ◌↔◌, IsTrue, Some, IfErr, IfOk, MatchOption, OnErr, OnOk, length, slice_get};
     ghost use Rattle.ld_script.specs.Name.{Lacks};
-    ghost use Rattle.ld_script.specs.Names.{AreNames, Notes, most_names};
+    ghost use Rattle.ld_script.specs.Names.{AreNames, most_names, no_names, noted};
     ghost use Rattle.ld_script.specs.declared.fault.ScriptFault.{ScriptFault};
 
     // No names. Takes no memory.
     pub(crate) fn new(alloc: Global) -> Names
-        ensures { result ≡ record { texts = []; specs = [] } }
+        ensures { result ≡ no_names }
     {
         Names {
             texts: IndexSet::new(alloc),
@@ -50,7 +53,7 @@ impl Names {
     ) -> Result<u16, ScriptFault>
         requires { Lacks self.old.texts name.now → length self.old.texts < most_names }
         ensures number { IfOk result (λ at. slice_get self.new.texts at ≡ Some name.now) }
-        ensures names { OnOk result (Notes self.old self.new name.now spec) }
+        ensures names { OnOk result (self.new ≡ noted self.old name.now spec) }
         ensures err { OnErr result (self.new ≡ self.old) }
         ensures memory { IfErr result (λ f. f ≡ ScriptFault.Memory) }
     {
@@ -64,6 +67,13 @@ impl Names {
         };
         self.specs.push(spec).unwrap();
         Ok(at as u16)
+    }
+
+    // Whether a name can be noted: it is there, or there is room for it.
+    pub(crate) fn has_room(&self, name: &str) -> bool
+        ensures { IsTrue result ↔ (Lacks self.now.texts name.now → length self.now.texts < most_names) }
+    {
+        self.specs.len() < MOST_NAMES || self.find(name).is_some()
     }
 
     // The number of a name, or None where it isn't there.

@@ -1,72 +1,76 @@
-ghost use Rattle.std.specs.Prelude.{◌≡◌, ◌≢◌, IfErr, IfOk};
-ghost use Rattle.ld_json.specs.Rules.{Accepts};
-ghost use Rattle.ld_script.specs.Name.{IsName};
-ghost use Rattle.ld_script.specs.Refusal.{RefusesScript, RefusesSteps};
-ghost use Rattle.ld_script.specs.Scripts.{no_steps, script_of};
-ghost use Rattle.ld_script.specs.declared.fault.ScriptFault.{ScriptFault};
+ghost use Rattle.std.specs.Prelude.{◌≡◌, ◌≤◌, IfOk, length};
+ghost use Rattle.ld_script.specs.ScriptView.{IsScript};
+ghost use Rattle.ld_script.specs.Step.{most_steps, sample_count};
 
-use crate::fault::ScriptFault;
-use crate::members::range_fault;
-use crate::name::is_name;
-use ld_base::Text;
-use ld_json::Node;
-use std::alloc::Global;
+use crate::step::Step;
+use std::alloc::{AllocError, Global};
+use std::marker::Model;
 
-/// What a virtual user does in one iteration. Scripts have no steps yet.
-#[derive(Clone, Copy, PartialEq, Eq)]
+/// What a virtual user does in one iteration: at most 200 steps.
+#[derive(Drop)]
 pub struct Script {
+    steps: Vec<Step>,
     room: u32,
 }
 
+impl Model for Script {
+    ghost use Rattle.ld_script.specs.ScriptView.{IsScript, ScriptView};
+
+    ghost Value = { ScriptView };
+
+    ghost view = { λ s. record { steps = s.steps.items; room = s.room } };
+
+    ghost invariant = { λ s. IsScript (record { steps = s.steps.items; room = s.room }) };
+}
+
 impl Script {
-    // The script that a member of the object of scripts is.
-    pub(crate) fn read(alloc: Global, name: &Text, node: &Node<'_>) -> Result<Script, ScriptFault>
-        ensures value { IfOk result (λ script. script ≡ script_of (name.now, node.now)) }
-        ensures named { IfOk result (λ _. IsName name.now) }
-        ensures accepted { IfOk result (λ _. Accepts (RefusesScript (name.now, node.now))) }
-        ensures refused { IfErr result (λ f. f ≢ ScriptFault.Memory
-            → RefusesScript (name.now, node.now) f) }
+    // The script of these steps.
+    pub(crate) fn of(steps: Vec<Step>) -> Script
+        requires { length steps.items ≤ most_steps }
+        ensures { result ≡ record { steps = steps.items; room = sample_count steps.items } }
     {
-        if !is_name(name.as_slice()) {
-            return Err(name_fault(alloc, node));
-        }
-        read_steps(alloc, node)
+        let room = samples_of(&steps);
+        Script { steps, room }
     }
 
-    // The script without steps.
-    fn empty() -> Script
-        ensures { result ≡ no_steps }
+    /// The steps, in order. Groups are laid flat.
+    pub fn steps(&self) -> &[Step]
+        ensures steps { result.now ≡ self.now.steps }
+        ensures script { IsScript self.now }
     {
-        Script { room: 0 }
+        self.steps.as_slice()
     }
 
-    /// How many samples one iteration may give at most.
+    /// How many samples one iteration may give at most: one for each step that counts.
     pub fn sample_room(&self) -> u32
-        ensures { result ≡ self.now.room }
+        ensures room { result ≡ self.now.room }
+        ensures script { IsScript self.now }
     {
         self.room
     }
+
+    // The same script.
+    pub(crate) fn copy(&self, alloc: Global) -> Result<Script, AllocError>
+        ensures { IfOk result (λ script. script ≡ self.now) }
+    {
+        let steps = Vec::from_slice(alloc, self.steps.as_slice())?;
+        Ok(Script {
+            steps,
+            room: self.room,
+        })
+    }
 }
 
-// The script whose steps are in a list. No steps can be read yet.
-fn read_steps(alloc: Global, node: &Node<'_>) -> Result<Script, ScriptFault>
-    ensures value { IfOk result (λ script. script ≡ no_steps) }
-    ensures accepted { IfOk result (λ _. Accepts (RefusesSteps node.now)) }
-    ensures refused { IfErr result (λ f. f ≢ ScriptFault.Memory → RefusesSteps node.now f) }
+// How many samples steps give.
+fn samples_of(steps: &[Step]) -> u32
+    requires { length steps.now ≤ most_steps }
+    ensures { result ≡ sample_count steps.now }
 {
-    let steps = node.list(alloc)?;
-    if !steps.is_empty() {
-        return Err(range_fault(alloc, node));
+    let mut room = 0;
+    for step in steps {
+        if step.gives_sample() {
+            room += 1;
+        }
     }
-    Ok(Script::empty())
-}
-
-// The fault of a script whose name is none, or that memory is missing.
-fn name_fault(alloc: Global, node: &Node<'_>) -> ScriptFault
-    ensures { result ≢ ScriptFault.Memory → result ≡ ScriptFault.BadName node.now.path }
-{
-    match node.path(alloc) {
-        Ok(path) => ScriptFault::BadName(path),
-        Err(_) => ScriptFault::Memory,
-    }
+    room
 }

@@ -1,5 +1,6 @@
 ghost use Rattle.std.specs.Prelude.{◌≡◌, IfOk};
 
+use crate::draft::Draft;
 use crate::fault::ScriptFault;
 use crate::members::{members_of, names_of, read_each};
 use crate::names::Names;
@@ -42,8 +43,13 @@ impl Scripts {
     /// Refused are, in this order, a value that is no object, as `WrongKind`, and an object of more
     /// than 100 members, as `Range`, each at the value's path. Then the first script is refused, in
     /// byte order of names, whose name is none, as `BadName`, or else whose value is no list, as
-    /// `WrongKind`, or else has a step, as `Range`, each at the script's path. The only other error
-    /// is want of memory.
+    /// `WrongKind`, each at the script's path, or else of which a step is refused, in order.
+    ///
+    /// A step behind the 200th is refused as `Range`, and so is one that is no object of one member,
+    /// `sleep`, `count` or `group`, that stands in more than eight groups as a group, or that counts
+    /// under a name that it may not have or that would be the 1,001st. What a step says is refused at
+    /// its path: as `Missing`, `WrongKind`, `Unknown` or `Range`, and a span of time as `Number`. The
+    /// only other error is want of memory.
     pub fn read(alloc: Global, node: &Node<'_>) -> Result<Scripts, ScriptFault>
         ensures value { IfOk result (AreScriptsOf node.now) }
         ensures scripts { IfOk result (λ s. AreScripts s.names s.scripts) }
@@ -51,12 +57,13 @@ impl Scripts {
         ensures refused { IfErr result (λ f. f ≢ ScriptFault.Memory → RefusesScripts node.now f) }
     {
         let members = members_of(alloc, node)?;
-        let scripts = read_each(alloc, &members)?;
+        let mut draft = Draft::new(alloc);
+        let scripts = read_each(alloc, &members, &mut draft)?;
         let names = names_of(alloc, members)?;
         Ok(Scripts {
             names,
             scripts,
-            used: Names::new(alloc),
+            used: draft.into_names(),
         })
     }
 
@@ -124,7 +131,7 @@ impl Scripts {
         ensures memory { IfErr result (λ f. f ≡ ScriptFault.Memory) }
     {
         let names = copy_texts(alloc, &self.names)?;
-        let scripts = Vec::from_slice(alloc, self.scripts.as_slice())?;
+        let scripts = copy_scripts(alloc, &self.scripts)?;
         let used = self.used.copy(alloc)?;
         Ok(Scripts {
             names,
@@ -142,6 +149,20 @@ fn copy_texts(alloc: Global, texts: &[Text]) -> Result<Vec<Text>, AllocError>
     for text in texts {
         let bytes = Vec::from_slice(alloc, text.as_slice())?;
         let Ok(()) = copies.push(Text::of(bytes)) else {
+            return Err(AllocError);
+        };
+    }
+    Ok(copies)
+}
+
+// The same scripts.
+fn copy_scripts(alloc: Global, scripts: &[Script]) -> Result<Vec<Script>, AllocError>
+    ensures { IfOk result (λ copies. copies.items ≡ scripts.now) }
+{
+    let mut copies = Vec::new(alloc);
+    for script in scripts {
+        let copy = script.copy(alloc)?;
+        let Ok(()) = copies.push(copy) else {
             return Err(AllocError);
         };
     }

@@ -9,17 +9,17 @@ use Rattle.ld_num.specs.Duration.{IsDuration, IsDurationRefusal, IsNumber, Term,
 use Rattle.ld_num.specs.declared.fault.NumFault.{NumFault}
 use Rattle.ld_num.specs.declared.fault.NumFault.TheVariants.{Empty, BadDigit, ZeroDenominator, TooLarge, BadUnit, NotWhole, Memory}
 use Rattle.ld_num.proofs.DurationLemmas.{none_of_empty, not_refused_duration, one_duration}
-use Rattle.ld_options.specs.Fields.{given}
-use Rattle.ld_options.specs.Ranges.{IsWithin}
-use Rattle.ld_options.proofs.RefusalLemmas.{ok_accepts, ok_same}
-use Rattle.ld_options.specs.Faults.{Refused}
-use Rattle.ld_options.specs.Times.{IsSpan, RefusesSpan, RefusesTime, span_text}
-use Rattle.ld_options.specs.declared.fault.OptionsFault.{OptionsFault}
-use Rattle.ld_options.specs.declared.range.Range.{Range}
+use Rattle.ld_script.specs.Fields.{given}
+use Rattle.ld_script.specs.Ranges.{IsWithin}
+use Rattle.ld_script.proofs.AnswerLemmas.{ok_accepts, ok_same}
+use Rattle.ld_script.specs.Fault.{Refused}
+use Rattle.ld_script.specs.Times.{IsSpan, RefusesSpan, RefusesTime, span_text}
+use Rattle.ld_script.specs.declared.fault.ScriptFault.{ScriptFault}
+use Rattle.ld_script.specs.declared.range.Range.{Range}
 
 -- an answer that is Ok isn't refused, nor is what it holds
-pub neither : {A : Type 0} → (answer : Result A OptionsFault) (x : A) (Refuses : A → Type 0) → answer ≡ Ok x → (Refuses x → ⊥) →
-    (fault : OptionsFault) → Refused answer fault ⊎ ((y : A) × (answer ≡ Ok y) × Refuses y) → ⊥
+pub neither : {A : Type 0} → (answer : Result A ScriptFault) (x : A) (Refuses : A → Type 0) → answer ≡ Ok x → (Refuses x → ⊥) →
+    (fault : ScriptFault) → Refused answer fault ⊎ ((y : A) × (answer ≡ Ok y) × Refuses y) → ⊥
 neither answer x Refuses is accepts fault (inl refused) = ok_accepts answer x is fault refused
 neither answer x Refuses is accepts fault (inr r) = accepts (subst Refuses (ok_same r.0 x (sym r.1 ∙ is)) r.2)
 

@@ -4,11 +4,11 @@ use Rattle.std.proofs.lemmas.Result.{IfOk-weaker}
 use Rattle.ld_json.specs.Pointer.{member_path}
 use Rattle.ld_json.specs.Rules.{Accepts}
 use Rattle.ld_num.specs.Duration.{IsDurationRefusal}
-use Rattle.ld_options.specs.Times.{RefusesSpan}
-use Rattle.ld_options.specs.declared.fault.OptionsFault.TheVariants.{Number}
-use Rattle.ld_options.proofs.RefusalLemmas.{ok_same}
-use Rattle.ld_options.proofs.TimesLemmas.{span_accepts}
-use Rattle.ld_options.proofs.times.span.Goals as goal
+use Rattle.ld_script.specs.Times.{RefusesSpan}
+use Rattle.ld_script.specs.declared.fault.ScriptFault.TheVariants.{Number}
+use Rattle.ld_script.proofs.AnswerLemmas.{ok_same}
+use Rattle.ld_script.proofs.TimesLemmas.{span_accepts}
+use Rattle.ld_script.proofs.times.span.Goals as goal
 
 pub returns-in-Ok-clause-accepted : goal.returns-in-Ok-clause-accepted
 returns-in-Ok-clause-accepted c =
