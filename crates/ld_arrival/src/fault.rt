@@ -7,10 +7,10 @@ use thiserror::Error;
 /// Why arrivals can't be planned so.
 #[derive(Debug, Drop, PartialEq, Eq, Error)]
 pub enum ArrivalFault {
-    /// A rate is zero or over 1,000,000.
+    /// A rate is over 1,000,000, or a constant one is zero.
     #[error("the rate is out of range")]
     RateRange,
-    /// The unit is zero or over 1 day, or the duration is zero or over 30 days.
+    /// The unit is zero or over 1 day, a constant rate's duration is zero, or arrivals last over 30 days.
     #[error("the unit or the duration is out of range")]
     DurationRange,
     /// So many arrivals are planned, which is more than 400,000. The number is 2^64 - 1 where they

@@ -15,7 +15,7 @@ use crate::fault::ExecFault;
 use crate::iters_part::ItersPart;
 use crate::owned::owned_set;
 use ld_base::{Act, Wish};
-use ld_course::Course;
+use ld_course::{Course, chosen};
 use ld_set::NumberSet;
 use std::alloc::Global;
 use std::marker::Model;
@@ -188,17 +188,6 @@ impl SharedIters {
         }
     }
 
-    // An idle user: the preferred one, where it is idle, else the least one.
-    fn idle_user(&self, prefer: u32) -> Option<u32>
-        ensures { result ≡ chosen_of prefer self.now.idle }
-    {
-        if self.idle.contains(prefer) {
-            Some(prefer)
-        } else {
-            self.idle.least()
-        }
-    }
-
     // Whether an item is open.
     fn has_open_item(&self) -> bool
         ensures { (s : Scenario) → Shows self.now s → result ≡ has_open_item s }
@@ -213,7 +202,7 @@ impl SharedIters {
         ensures none { IfNone result ((s : Scenario) (n : ℕ) → Shows self.now s → releases n s reading ≡ []) }
     {
         if self.may_release(reading) {
-            self.idle_user(prefer)
+            chosen(&self.idle, prefer)
         } else {
             None
         }
@@ -239,7 +228,7 @@ impl SharedIters {
         ensures none { IfNone result ((s : Scenario) (n : ℕ) → Shows self.now s → starts n s reading ≡ []) }
     {
         let item = self.item_to_start(reading)?;
-        let user = self.idle_user(prefer)?;
+        let user = chosen(&self.idle, prefer)?;
         Some((user, item))
     }
 

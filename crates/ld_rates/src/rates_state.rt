@@ -16,7 +16,7 @@ use crate::fault::ExecFault;
 use crate::open_arrivals::OpenArrivals;
 use crate::rates_part::RatesPart;
 use ld_base::{Act, Wish};
-use ld_course::{Course, above};
+use ld_course::{Course, above, chosen};
 use ld_set::NumberSet;
 use std::alloc::Global;
 use std::marker::Model;
@@ -93,7 +93,7 @@ impl RatesState {
             return Wish::Take { slot };
         }
         if let Some((item, moment)) = self.due_arrival(reading) {
-            return self.answer(item, moment, self.idle_user(prefer), reading);
+            return self.answer(item, moment, chosen(&self.idle, prefer), reading);
         }
         if self.may_close(reading) {
             Wish::Close
@@ -191,17 +191,6 @@ impl RatesState {
         self.held += 1;
     }
 
-    // An idle user: the preferred one, where it is idle, else the least one.
-    fn idle_user(&self, prefer: u32) -> Option<u32>
-        ensures { result ≡ chosen_of prefer self.now.idle }
-    {
-        if self.idle.contains(prefer) {
-            Some(prefer)
-        } else {
-            self.idle.least()
-        }
-    }
-
     // The idle user that is to be released, if there is one.
     fn to_release(&self, prefer: u32, reading: u64) -> Option<u32>
         ensures some { IfSome result (λ user. chosen_of prefer self.now.idle ≡ Some user) }
@@ -209,7 +198,7 @@ impl RatesState {
         ensures none { IfNone result ((s : Scenario) (n : ℕ) → Shows self.now s → releases n s reading ≡ []) }
     {
         if self.may_release(reading) {
-            self.idle_user(prefer)
+            chosen(&self.idle, prefer)
         } else {
             None
         }

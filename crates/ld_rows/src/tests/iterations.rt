@@ -18,7 +18,8 @@ test after | plan t => 0, out "sequence 0,1 position 0\nusers 2 2\nscenario a co
 test beside | plan t => 0, out "sequence 0,1 position 0\nusers 4 4\nscenario a constant-vus begin 0 end 10000000000 hard 15000000000 users 2 max 2 items 0\nscenario b constant-vus begin 14000000000 end 15000000000 hard 45000000000 users 2 max 2 items 0\n", read t
 test mixed | plan t --list => 0, out "sequence 0,1 position 0\nusers 3 3\nscenario a constant-arrival-rate begin 0 end 1000000000 hard 31000000000 users 1 max 1 items 2\nmoment 0 0\nmoment 1 500000000\nscenario b shared-iterations begin 0 end 600000000000 hard 630000000000 users 1 max 1 items 2\nscenario c constant-vus begin 0 end 1000000000 hard 31000000000 users 1 max 1 items 0\n", read t"#;
 
-// Rehearsals of them.
+// Rehearsals of them, and of scripts with steps: a rehearsal plays none of these, but the samples that an iteration may
+// give have to find room.
 const PLAYED: &str =
     r#"test three-each | rehearse t --iteration 2s --journal j => 0, out "users 1 1\nscenario main planned 3 started 2 done 2 interrupted 0 dropped 1 late 0\n", read t, start j, append j, j is three-each
 test graceful | rehearse t --iteration 1500ms --journal j => 0, out "users 1 1\nscenario main planned 0 started 1 done 1 interrupted 0 dropped 0 late 0\n", read t, start j, append j, j is graceful
@@ -27,7 +28,9 @@ test after | rehearse t --iteration 8s --journal j => 0, out "users 2 2\nscenari
 test steady | rehearse t --iteration 1s --entries 10 --journal j => 7, out "users 1 1\nscenario main planned 0 started 4 done 4 interrupted 0 dropped 0 late 0\n", err "error full entries 11 10\n", read t, start j, append j, j is steady
 test five-shared | rehearse t --iteration 1s --journal j => 0, out "users 2 2\nscenario main planned 5 started 5 done 5 interrupted 0 dropped 0 late 0\n", read t, start j, append j, j is five-shared
 test five-shared | rehearse t --iteration 1s --journal j --segment 1/2:1 => 0, out "users 1 1\nscenario main planned 2 started 2 done 2 interrupted 0 dropped 0 late 0\n", read t, start j, append j, j is half-shared
-test mixed | rehearse t --iteration 400ms --journal j => 0, out "users 3 3\nscenario a planned 2 started 2 done 2 interrupted 0 dropped 0 late 0\nscenario b planned 2 started 2 done 2 interrupted 0 dropped 0 late 0\nscenario c planned 0 started 3 done 3 interrupted 0 dropped 0 late 0\n", read t, start j, append j, j is mixed"#;
+test mixed | rehearse t --iteration 400ms --journal j => 0, out "users 3 3\nscenario a planned 2 started 2 done 2 interrupted 0 dropped 0 late 0\nscenario b planned 2 started 2 done 2 interrupted 0 dropped 0 late 0\nscenario c planned 0 started 3 done 3 interrupted 0 dropped 0 late 0\n", read t, start j, append j, j is mixed
+test grouped | rehearse t --iteration 1s --journal j => 0, out "users 1 1\nscenario main planned 0 started 1 done 1 interrupted 0 dropped 0 late 0\n", read t, start j, append j, j is grouped
+test counting | rehearse t --iteration 1s --entries 10 --journal j => 7, out "users 1 1\nscenario main planned 0 started 0 done 0 interrupted 0 dropped 0 late 0\n", err "error full samples 11 10\n", read t, start j, append j, j is counting"#;
 
 // Documents that are refused, and tests that have no plan.
 const REFUSED: &str =

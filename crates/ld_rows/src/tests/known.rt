@@ -5,7 +5,8 @@ use std::test::Fail;
 // Tests, each behind its name: three arrivals in a second; four for two users; and two arrivals in each of two
 // scenarios, of which the later one begins when the last iteration of the first has to have ended. Then constant users,
 // shared iterations and iterations of each user; two scenarios of constant users, of which the second begins after the
-// first one's last iteration has ended, or beside it; and three scenarios of three executors.
+// first one's last iteration has ended, or beside it; three scenarios of three executors; and scripts with eleven steps that
+// count, and with a group.
 const TESTS: &str =
     r#"three {"options":{"scenarios":{"main":{"executor":"constant-arrival-rate","rate":3,"duration":"1s","preAllocatedVUs":1}}},"scripts":{"default":[]}}
 four {"options":{"scenarios":{"main":{"executor":"constant-arrival-rate","rate":4,"duration":"1s","preAllocatedVUs":2}}},"scripts":{"default":[]}}
@@ -19,7 +20,9 @@ graceful {"options":{"scenarios":{"main":{"executor":"constant-vus","vus":1,"dur
 steady {"options":{"scenarios":{"main":{"executor":"constant-vus","vus":1,"duration":"10s"}}},"scripts":{"default":[]}}
 after {"options":{"scenarios":{"a":{"executor":"constant-vus","vus":2,"duration":"10s","gracefulStop":"5s"},"b":{"executor":"constant-vus","vus":2,"startTime":"15s","duration":"1s"}}},"scripts":{"default":[]}}
 beside {"options":{"scenarios":{"a":{"executor":"constant-vus","vus":2,"duration":"10s","gracefulStop":"5s"},"b":{"executor":"constant-vus","vus":2,"startTime":"14s","duration":"1s"}}},"scripts":{"default":[]}}
-mixed {"options":{"scenarios":{"a":{"executor":"constant-arrival-rate","rate":2,"duration":"1s","preAllocatedVUs":1},"b":{"executor":"shared-iterations","vus":1,"iterations":2},"c":{"executor":"constant-vus","vus":1,"duration":"1s"}}},"scripts":{"default":[]}}"#;
+mixed {"options":{"scenarios":{"a":{"executor":"constant-arrival-rate","rate":2,"duration":"1s","preAllocatedVUs":1},"b":{"executor":"shared-iterations","vus":1,"iterations":2},"c":{"executor":"constant-vus","vus":1,"duration":"1s"}}},"scripts":{"default":[]}}
+counting {"options":{"scenarios":{"main":{"executor":"constant-vus","vus":1,"duration":"1s"}}},"scripts":{"default":[{"count":{"name":"made"}},{"count":{"name":"made"}},{"count":{"name":"made"}},{"count":{"name":"made"}},{"count":{"name":"made"}},{"count":{"name":"made"}},{"count":{"name":"made"}},{"count":{"name":"made"}},{"count":{"name":"made"}},{"count":{"name":"made"}},{"count":{"name":"made"}}]}}
+grouped {"options":{"scenarios":{"main":{"executor":"constant-vus","vus":1,"duration":"1s"}}},"scripts":{"default":[{"sleep":"1s"},{"group":{"name":"pay","steps":[{"count":{"name":"paid","add":3}},{"sleep":250}]}}]}}"#;
 
 // Journals, each behind a line with its name:
 // - `one-user`: two arrivals with one user; the second is dropped, since the first is under way;
@@ -36,7 +39,9 @@ mixed {"options":{"scenarios":{"a":{"executor":"constant-arrival-rate","rate":2,
 // - `steady`: iterations of a second, with room for ten entries, of which the last is needed for the next return;
 // - `after`: the test `after`, with iterations of 8 seconds: the second scenario takes the first one's users;
 // - `five-shared` and `half-shared`: five iterations of a second that two users share, and the second half of them;
-// - `mixed`: the test `mixed`, with iterations of 400 milliseconds: an arrival is due before the users' next iterations.
+// - `mixed`: the test `mixed`, with iterations of 400 milliseconds: an arrival is due before the users' next iterations;
+// - `counting`: an iteration may give eleven samples, of which ten have room: no iteration begins;
+// - `grouped`: an iteration of a second, whatever its steps say.
 const JOURNALS: &str = r#"# one-user
 ldjournal 1
 test 188
@@ -343,6 +348,28 @@ entries 1000000
 22 0 1200000000 release 2 3
 23 0 1200000000 close 2
 end 23
+# counting
+ldjournal 1
+test 396
+{"options":{"scenarios":{"main":{"executor":"constant-vus","vus":1,"duration":"1s"}}},"scripts":{"default":[{"count":{"name":"made"}},{"count":{"name":"made"}},{"count":{"name":"made"}},{"count":{"name":"made"}},{"count":{"name":"made"}},{"count":{"name":"made"}},{"count":{"name":"made"}},{"count":{"name":"made"}},{"count":{"name":"made"}},{"count":{"name":"made"}},{"count":{"name":"made"}}]}}
+segment 0:1
+sequence 0,1
+entries 10
+1 0 0 take 0 1 0
+end 1
+# grouped
+ldjournal 1
+test 208
+{"options":{"scenarios":{"main":{"executor":"constant-vus","vus":1,"duration":"1s"}}},"scripts":{"default":[{"sleep":"1s"},{"group":{"name":"pay","steps":[{"count":{"name":"paid","add":3}},{"sleep":250}]}}]}}
+segment 0:1
+sequence 0,1
+entries 1000000
+1 0 0 take 0 1 0
+2 0 0 start 0 1 0 31000000000
+3 0 1000000000 return 0 1 0 done 0
+4 0 1000000000 release 0 1
+5 0 1000000000 close 0
+end 5
 "#;
 
 /// The test of this name, or else the text itself.

@@ -14,7 +14,7 @@ returns-in-Some-to_take-clause-first c s shows n users free =
 
 pub returns-in-Some-due_arrival-clause-first : goal.returns-in-Some-due_arrival-clause-first
 returns-in-Some-due_arrival-clause-first c s shows n users free =
-    answer_shown c.args.self.now s shows n users c.args.reading c.args.prefer (c.in-Some-due_arrival.item, c.in-Some-due_arrival.moment) c.idle_user.result c.answer.result
+    answer_shown c.args.self.now s shows n users c.args.reading c.args.prefer (c.in-Some-due_arrival.item, c.in-Some-due_arrival.moment) c.chosen.result c.answer.result
     (c.in_default.ensures.none s n shows) (c.in_default-to_take.ensures.none s n users shows free) (c.in-Some-due_arrival.ensures.shown s shows) (search rules) c.answer.ensures
 
 pub returns-then-may_close-clause-first : goal.returns-then-may_close-clause-first

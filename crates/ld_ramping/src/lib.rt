@@ -1,0 +1,16 @@
+//! Ramping users: in which intervals each of them is on.
+#![tactic(auto)]
+
+mod examples;
+mod fault;
+mod interval;
+mod laws;
+mod ramp;
+mod slot;
+
+pub use examples::worked_ramps;
+pub use fault::ExecFault;
+pub use interval::{Interval, Intervals};
+pub use laws::none_empty;
+pub use ramp::intervals;
+pub use slot::{Slot, Slots};
