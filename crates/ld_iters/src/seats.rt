@@ -1,4 +1,4 @@
-ghost use Rattle.std.specs.Prelude.{◌≡◌, ◌<◌, ◌≤◌, slice_get, slice_set};
+ghost use Rattle.std.specs.Prelude.{◌≡◌, ◌<◌, ◌≤◌, IfOk, length, slice_get, slice_set};
 ghost use Rattle.ld_iters.specs.Seats.{IsSeat};
 
 use std::alloc::{AllocError, Global};
@@ -29,10 +29,13 @@ impl Model for Seats {
 }
 
 impl Seats {
-    /// Seats of which nothing was put yet.
+    /// Seats of which nothing was put yet, with a place for each user and each slot.
     ///
     /// Fails where the allocator gives no memory for them.
-    pub fn new(alloc: Global) -> Result<Seats, AllocError> {
+    pub fn new(alloc: Global) -> Result<Seats, AllocError>
+        ensures users { IfOk result (λ seats. length seats.slot_of ≡ 1001) }
+        ensures slots { IfOk result (λ seats. length seats.user_of ≡ 1000) }
+    {
         let slots = vec![in alloc; 0u32; LAST_USER as usize + 1]?;
         let users = vec![in alloc; 0u32; SLOTS as usize]?;
         Ok(Seats { slots, users })
