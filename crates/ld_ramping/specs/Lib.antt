@@ -1,4 +1,6 @@
 pub mod Turns
 pub mod Intervals
+pub mod Rising
+pub mod Owned
 pub mod Examples
 pub mod Laws
