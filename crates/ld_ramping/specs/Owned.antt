@@ -1,5 +1,5 @@
 -- The slots that an instance owns of ramping users, and how the pool's machine has them.
-use Rattle.std.specs.Prelude.{◌<◌, ℕ, List, All, map}
+use Rattle.std.specs.Prelude.{◌<◌, List, All, map}
 use Rattle.std.specs.List.Sorted.{IsStrictlyIncreasing}
 use Rattle.ld_machine.specs.Plan as machine
 use Rattle.ld_ramping.specs.Rising.{AreRising}
