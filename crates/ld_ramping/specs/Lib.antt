@@ -2,5 +2,6 @@ pub mod Turns
 pub mod Intervals
 pub mod Rising
 pub mod Owned
+pub mod Active
 pub mod Examples
 pub mod Laws

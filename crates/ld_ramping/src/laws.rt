@@ -1,6 +1,17 @@
-ghost use Rattle.ld_ramping.specs.Laws.{NoneEmpty};
+ghost use Rattle.ld_ramping.specs.Laws.{EndInTime, FirstOnes, IntervalsRise};
 
-/// No interval of a ramping user is empty.
-pub fn none_empty()
-    ensures { NoneEmpty }
+/// The intervals of a ramping user rise: none is empty, and each is over when a later one begins.
+pub fn intervals_rise()
+    ensures { IntervalsRise }
+{}
+
+/// The intervals of a ramping user are over when the stages are.
+pub fn end_in_time()
+    ensures { EndInTime }
+{}
+
+/// The ramping users that are on at a moment are the first ones: a user from 1 is on where as many users
+/// are.
+pub fn first_ones()
+    ensures { FirstOnes }
 {}

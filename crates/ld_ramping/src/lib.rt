@@ -11,6 +11,6 @@ mod slot;
 pub use examples::worked_ramps;
 pub use fault::ExecFault;
 pub use interval::{Interval, Intervals};
-pub use laws::none_empty;
+pub use laws::{end_in_time, first_ones, intervals_rise};
 pub use ramp::intervals;
 pub use slot::{Slot, Slots};
