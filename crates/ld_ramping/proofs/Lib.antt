@@ -1,1 +1,4 @@
 pub mod SpanLemmas
+pub mod TurnLemmas
+pub mod RiseLemmas
+pub mod OnLemmas
