@@ -1,10 +1,11 @@
 -- At each moment the users that are on are the first ones: this is so within each stage.
-use Rattle.std.proofs.Common.{◌≡◌, ◌∙◌, ◌<◌, ◌≤◌, ◌+◌, ◌++◌, ◌&&◌, ◌||◌, Bool, true, false, cond, if◌then◌else◌, ℕ, List, [], ◌∷◌, Option, Some, None, ap, arith, nat_le, nat_lt, refl, sym, ⊎_elim}
-use Rattle.std.specs.List.{list_any}
-use Rattle.std.proofs.lemmas.Bool.{cases_lt, le-leb, le-ltb, leb-true, lt-leb, lt-ltb, ltb-true}
+use Rattle.std.proofs.Common.{◌≡◌, ◌∙◌, ◌<◌, ◌≤◌, ◌+◌, ◌++◌, ◌&&◌, ◌||◌, ◌↔◌, Bool, true, false, cond, if◌then◌else◌, ℕ, zero, suc, true≢false, List, [], ◌∷◌, Option, Some, None, ap, arith, count_by, fold, map, max, nat_le, nat_lt, refl, sym, ⊎_elim}
+use Rattle.std.specs.List.{list_any, range_with_len}
+use Rattle.std.proofs.lemmas.Bool.{cases_Bool, cases_lt, le-leb, le-ltb, leb-true, lt-leb, lt-ltb, ltb-true}
 use Rattle.std.proofs.lemmas.Bool.Decides.{nat_tests}
+use Rattle.std.proofs.lemmas.List.Sums.{sum_by-cons}
 use Rattle.ld_base.specs.declared.stage.Stage.{Stage}
-use Rattle.ld_ramping.specs.Active.{has_moment, is_on}
+use Rattle.ld_ramping.specs.Active.{active, has_moment, is_on, ramp_users}
 use Rattle.ld_ramping.specs.declared.interval.Interval.{Interval}
 use Rattle.ld_ramping.specs.Intervals.{intervals_of, paired, spans}
 use Rattle.ld_ramping.specs.Turns.{listed, turn_among, turn_in, turns, turns_in}
@@ -97,18 +98,20 @@ stage_on user begin users moment stage _ _ rest later (was_off out) (lacks _ abo
     so None (was_off above) ∙ lacks_test begin (begin + stage.length) user users moment later out (omega arith)
 stage_on user begin users moment stage _ _ rest later (was_on on among _) (lacks out _) so = absurd (omega arith)
 
+both_false : (test : Bool) → cond test false false ≡ false
+both_false true = refl
+both_false false = refl
+
+-- the turn at the end says that nobody is on then
 last_on : (user users begin moment : ℕ) (since : Option ℕ) → Since user users begin since →
     on_spans moment (listed since ++ listed (turn_among user users begin)) ≡ cond (nat_lt moment begin) (on_since moment since) false
+unfolding paired
 last_on user users begin moment _ (was_on on among since) =
     ap (λ test. on_spans moment (on ∷ listed (if test then Some begin else None))) (le-leb user users among)
     ∙ span_on on begin moment [] ∙ last_test on begin moment
 last_on user users begin moment _ (was_off out) =
     ap (λ test. on_spans moment (listed (if test then Some begin else None))) (lt-leb user users out)
-    ∙ sym (same (nat_lt moment begin))
-  where
-    same : (test : Bool) → cond test false false ≡ false
-    same true = refl
-    same false = refl
+    ∙ sym (both_false (nat_lt moment begin))
 
 turns_on : (user begin users moment : ℕ) (stages : List Stage) (since : Option ℕ) → Since user users begin since →
     on_spans moment (listed since ++ turns_in user begin users stages)
@@ -166,3 +169,73 @@ pub is_on-lower : (user other start moment : ℕ) (stages : List Stage) → user
 is_on-lower user other start moment stages le on =
     is_on-stages user start moment stages
     ∙ lower_in user other 0 start moment stages le (sym (is_on-stages other start moment stages) ∙ on)
+
+-- a user that is on at some moment is one of the greatest number of users
+few_within : (user begin users moment : ℕ) (stage : Stage) (turn : Option ℕ) → Turned user begin users stage turn →
+    on_within user users moment turn ≡ true → user ≤ max users stage.target
+few_within user begin users moment stage _ (up out below) on = omega arith
+few_within user begin users moment stage _ (down above among) on = omega arith
+few_within user begin users moment stage _ (stays among below) on = omega arith
+few_within user begin users moment stage _ (lacks out above) on = absurd (grind (arith, nat_tests))
+
+le-fold_max : (most : ℕ) (numbers : List ℕ) → most ≤ fold max most numbers
+le-fold_max most [] = omega arith
+le-fold_max most (n ∷ numbers) = let rest = le-fold_max (max most n) numbers in omega arith
+
+one_true : (test a b : Bool) (P : Type 0) → (a ≡ true → P) → (b ≡ true → P) → cond test a b ≡ true → P
+one_true true a b P first second on = first on
+one_true false a b P first second on = second on
+
+few_in : (user begin users moment most : ℕ) (stages : List Stage) → users ≤ most → on_in user begin users moment stages ≡ true →
+    user ≤ fold max most (map (λ stage. stage.target) stages)
+few_in user begin users moment most [] le on = cc
+few_in user begin users moment most (stage ∷ later) le on =
+    let numbers = map (λ (s : Stage). s.target) later in
+    one_true (nat_lt moment (begin + stage.length)) _ _ (user ≤ fold max (max most stage.target) numbers)
+    (λ within.
+        let few = few_within user begin users moment stage _ (turn_case user begin users stage) within in
+        let more = le-fold_max (max most stage.target) numbers in
+        omega arith)
+    (few_in user (begin + stage.length) stage.target moment (max most stage.target) later (omega arith))
+    on
+
+pub is_on-few : (user start moment : ℕ) (stages : List Stage) → is_on user start stages moment ≡ true → user ≤ ramp_users start stages
+is_on-few user start moment stages on =
+    few_in user 0 start moment start stages (omega arith) (sym (is_on-stages user start moment stages) ∙ on)
+
+-- Numbers of which the first ones pass a test, and only below `a + n`, pass it exactly up to as many as pass it.
+pub first_pass : (p : ℕ → Bool) → ((u v : ℕ) → u ≤ v → p v ≡ true → p u ≡ true) → (a n : ℕ) →
+    ((u : ℕ) → p u ≡ true → u < a + n) → (u : ℕ) → a ≤ u → (p u ≡ true) ↔ (u < a + count_by p (range_with_len a n))
+first_pass p lower a zero few u from = (λ on. let less = few u on in absurd (omega arith), λ less. absurd (omega arith))
+first_pass p lower a (suc n) few u from =
+    let sum = sum_by-cons (λ v. cond (p v) 1 0) a (range_with_len (a + 1) n) in
+    let so = first_pass p lower (a + 1) n (λ v on. let less = few v on in omega arith) in
+    let some = count_by p (range_with_len (a + 1) n) in
+    ⊎_elim
+    (λ (yes : p a ≡ true).
+        let count : count_by p (range_with_len a (suc n)) ≡ 1 + some = sum ∙ ap (λ test. cond test 1 0 + some) yes in
+        ⊎_elim
+        (λ (behind : a < u).
+            let same = so u (omega arith) in (
+              λ on. let less : u < a + 1 + some = same.0 on in omega arith,
+              λ less. same.1 (omega arith),
+            ))
+        (λ (here_or_before : u ≤ a). (λ on. omega arith, λ less. lower u a here_or_before yes))
+        (cases_lt a u))
+    (λ (fails : p a ≡ false).
+        let count : count_by p (range_with_len a (suc n)) ≡ 0 + some = sum ∙ ap (λ test. cond test 1 0 + some) fails in
+        let next = so (a + 1) (omega arith) in (
+          λ on. absurd (true≢false (sym (lower a u from on) ∙ fails)),
+          λ less. absurd (true≢false (sym (lower a (a + 1) (omega arith) (next.1 (omega arith))) ∙ fails)),
+        ))
+    (cases_Bool (p a))
+
+pub are_first_ones : (user start : ℕ) (stages : List Stage) (moment : ℕ) → 0 < user →
+    (is_on user start stages moment ≡ true) ↔ (user ≤ active start stages moment)
+are_first_ones user start stages moment from =
+    let p = λ (u : ℕ). is_on u start stages moment in
+    let same = first_pass p (λ u v. is_on-lower u v start moment stages) 1 (ramp_users start stages)
+        (λ u on. let few = is_on-few u start moment stages on in omega arith) user (omega arith) in (
+      λ on. let less : user < 1 + active start stages moment = same.0 on in omega arith,
+      λ le. same.1 (omega arith),
+    )
