@@ -2,6 +2,7 @@
 use Rattle.std.specs.Prelude.{◌≡◌, ℕ, List, [], ◌∷◌}
 use Rattle.ld_base.specs.declared.stage.Stage.{Stage}
 use Rattle.ld_ramping.specs.declared.interval.Interval.{Interval}
+use Rattle.ld_ramping.specs.Active.{active, ramp_users}
 use Rattle.ld_ramping.specs.Intervals.{intervals_of}
 
 abbrev pub stage : (target length : ℕ) → Stage
@@ -26,3 +27,14 @@ pub record AreWorked : Type 0 where
   pub meeting : intervals_of 1 0 jumps ≡ interval 0 1000000000 ∷ interval 1000000000 2000000000 ∷ []
   pub jumped : intervals_of 2 0 jumps ≡ interval 0 1000000000 ∷ []
   pub started : intervals_of 1 1 (stage 1 10 ∷ []) ≡ interval 0 10 ∷ []
+
+-- how many users are on at moments of these ramps, and how many there are at most
+pub record AreCounted : Type 0 where
+  pub none : active 0 up_and_down 4999999999 ≡ 0
+  pub first : active 0 up_and_down 5000000000 ≡ 1
+  pub both : active 0 up_and_down 10000000000 ≡ 2
+  pub second_off : active 0 up_and_down 15000000000 ≡ 1
+  pub over : active 0 up_and_down 20000000000 ≡ 0
+  pub meeting : active 0 jumps 1000000000 ≡ 1
+  pub most : ramp_users 0 up_and_down ≡ 2
+  pub most_at_first : ramp_users 3 up_and_down ≡ 3

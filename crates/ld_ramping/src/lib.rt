@@ -8,7 +8,7 @@ mod laws;
 mod ramp;
 mod slot;
 
-pub use examples::worked_ramps;
+pub use examples::{worked_counts, worked_ramps};
 pub use fault::ExecFault;
 pub use interval::{Interval, Intervals};
 pub use laws::{end_in_time, first_ones, intervals_rise};

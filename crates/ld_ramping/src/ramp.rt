@@ -1,5 +1,6 @@
 ghost use Rattle.std.specs.Prelude.{◌≡◌, ◌≤◌, ◌<◌, ◌+◌, ◌*◌, ◌/◌, ◌++◌, IfOk, IfErr, sum_by};
 ghost use Rattle.ld_ramping.specs.Intervals.{intervals_of, longest, spans};
+ghost use Rattle.ld_ramping.specs.Rising.{AreRising, EndBy};
 ghost use Rattle.ld_ramping.specs.Turns.{listed, turn_among, turn_in};
 ghost use Rattle.ld_ramping.specs.declared.fault.ExecFault.TheVariants.{Memory};
 
@@ -10,7 +11,8 @@ use std::alloc::{AllocError, Global};
 
 /// The intervals in which a slot is on, in order, where `start` users are on at the scenario's begin and
 /// the stages, together no longer than 30 days, turn users on and off. The slot's user is `slot + 1`,
-/// counted from 1. All are off at the end of the last stage.
+/// counted from 1. All are off at the end of the last stage. None of the intervals is empty, each is over
+/// when a later one begins, and all are when the stages are.
 ///
 /// Fails where there is no memory for them.
 pub fn intervals(
@@ -21,6 +23,8 @@ pub fn intervals(
 ) -> Result<Vec<Interval>, ExecFault>
     requires { sum_by (λ stage. stage.length) stages.now ≤ longest }
     ensures intervals { IfOk result (λ found. found.items ≡ intervals_of (slot + 1) start stages.now) }
+    ensures rising { IfOk result (λ found. AreRising found.items) }
+    ensures in_time { IfOk result (λ found. EndBy (sum_by (λ stage. stage.length) stages.now) found.items) }
     ensures memory { IfErr result (λ fault. fault ≡ Memory) }
 {
     let user = u64::from(slot) + 1;

@@ -1,4 +1,4 @@
-use Rattle.std.proofs.Common.{◌≡◌, ◌∙◌, ◌+◌, ◌++◌, [], ℕ, List, Option, ap, arith, drop, length, slice_index_or, sym}
+use Rattle.std.proofs.Common.{◌≡◌, ◌∙◌, ◌+◌, ◌++◌, [], ℕ, List, Option, ap, arith, drop, length, slice_index_or, subst, sum_by, sym}
 use Rattle.std.proofs.lemmas.List.{append-nil, at_drop_more}
 use Rattle.std.proofs.Math.Seq.{drop-length}
 use Rattle.std.proofs.lemmas.List.Sums.{sum_by-drop_more}
@@ -6,6 +6,8 @@ use Rattle.ld_base.specs.declared.stage.Stage.{Stage}
 use Rattle.ld_ramping.specs.declared.interval.Interval.{Interval}
 use Rattle.ld_ramping.specs.Intervals.{intervals_of, spans}
 use Rattle.ld_ramping.specs.Turns.{listed, turns, turns_in}
+use Rattle.ld_ramping.specs.Rising.{AreRising, EndBy}
+use Rattle.ld_ramping.proofs.RiseLemmas.{intervals_are_rising, intervals_end}
 use Rattle.ld_ramping.proofs.SpanLemmas.{span_open}
 use Rattle.ld_ramping.proofs.ramp.intervals.Goals as goal
 
@@ -60,3 +62,13 @@ returns-clause-intervals c =
     (sym (ap (λ n. drop n stages) last ∙ drop-length stages))
     ∙ so_far.invariant.1
     ∙ ap (λ slot. intervals_of (slot + 1) c.args.start stages) c.from-user.ensures
+
+pub returns-clause-rising : goal.returns-clause-rising
+returns-clause-rising c =
+    subst AreRising (sym (returns-clause-intervals c)) (intervals_are_rising (c.args.slot + 1) c.args.start c.args.stages.now)
+
+pub returns-clause-in_time : goal.returns-clause-in_time
+returns-clause-in_time c =
+    let stages = c.args.stages.now in
+    subst (EndBy (sum_by (λ stage. stage.length) stages)) (sym (returns-clause-intervals c))
+    (intervals_end (c.args.slot + 1) c.args.start stages)
