@@ -2,3 +2,4 @@ pub mod SpanLemmas
 pub mod TurnLemmas
 pub mod RiseLemmas
 pub mod OnLemmas
+pub mod FirstLemmas

@@ -17,7 +17,7 @@ is_on user start stages moment = list_any (has_moment moment) (intervals_of user
 abbrev pub ramp_users : ℕ → List Stage → ℕ
 ramp_users start stages = fold max start (map (λ stage. stage.target) stages)
 
--- how many of the users are on at a moment
+-- how many of the users, which are counted from 1, are on at a moment
 abbrev pub active : (start : ℕ) → List Stage → (moment : ℕ) → ℕ
 active start stages moment =
     count_by (λ user. is_on user start stages moment) (range_with_len 1 (ramp_users start stages))

@@ -1,4 +1,4 @@
-ghost use Rattle.ld_ramping.specs.Laws.{EndInTime, FirstOnes, IntervalsRise};
+ghost use Rattle.ld_ramping.specs.Laws.{EndInTime, FirstOnes, IntervalsRise, NoneBeyond};
 
 /// The intervals of a ramping user rise: none is empty, and each is over when a later one begins.
 pub fn intervals_rise()
@@ -10,8 +10,13 @@ pub fn end_in_time()
     ensures { EndInTime }
 {}
 
-/// The ramping users that are on at a moment are the first ones: a user from 1 is on where as many users
-/// are.
+/// The ramping users that are on at a moment are the first ones: a user, counted from 1, is on exactly
+/// where at least so many users are.
 pub fn first_ones()
     ensures { FirstOnes }
+{}
+
+/// A user above the greatest number of ramping users is never on: it has no interval.
+pub fn none_beyond()
+    ensures { NoneBeyond }
 {}

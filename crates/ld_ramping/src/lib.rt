@@ -11,6 +11,6 @@ mod slot;
 pub use examples::{worked_counts, worked_ramps};
 pub use fault::ExecFault;
 pub use interval::{Interval, Intervals};
-pub use laws::{end_in_time, first_ones, intervals_rise};
+pub use laws::{end_in_time, first_ones, intervals_rise, none_beyond};
 pub use ramp::intervals;
 pub use slot::{Slot, Slots};

@@ -1,4 +1,4 @@
-use Rattle.ld_ramping.proofs.OnLemmas.{are_first_ones}
+use Rattle.ld_ramping.proofs.FirstLemmas.{are_first_ones}
 use Rattle.ld_ramping.proofs.laws.first_ones.Goals as goal
 
 pub returns : goal.returns
