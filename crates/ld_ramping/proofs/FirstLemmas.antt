@@ -1,20 +1,18 @@
 -- At each moment the users that are on are the first ones: this is so within each stage.
-use Rattle.std.proofs.Common.{◌≡◌, ◌∙◌, ◌<◌, ◌≤◌, ◌+◌, ◌++◌, ◌&&◌, ◌||◌, ◌↔◌, Bool, true, false, cond, if◌then◌else◌, ℕ, zero, suc, true≢false, List, [], ◌∷◌, Option, Some, None, ap, arith, count_by, fold, map, max, nat_le, nat_lt, refl, sym, ⊎_elim}
+use Rattle.std.proofs.Common.{◌≡◌, ◌∙◌, ◌<◌, ◌≤◌, ◌+◌, ◌||◌, ◌↔◌, Bool, true, false, cond, ℕ, zero, suc, true≢false, List, [], ◌∷◌, Option, ap, arith, count_by, fold, map, max, nat_lt, refl, sym, ⊎_elim}
 use Rattle.std.specs.List.{list_any, range_with_len}
-use Rattle.std.proofs.lemmas.Bool.{cases_Bool, cases_lt, le-leb, le-ltb, leb-true, lt-leb, lt-ltb, ltb-true}
+use Rattle.std.proofs.lemmas.Bool.{cases_Bool, cases_lt, le-leb}
 use Rattle.std.proofs.lemmas.Bool.Decides.{nat_tests}
+use Rattle.std.proofs.lemmas.List.Elements.{All-head}
 use Rattle.std.proofs.lemmas.List.Sums.{sum_by-cons}
 use Rattle.ld_base.specs.declared.stage.Stage.{Stage}
 use Rattle.ld_ramping.specs.Active.{active, has_moment, is_on, ramp_users}
 use Rattle.ld_ramping.specs.declared.interval.Interval.{Interval}
-use Rattle.ld_ramping.specs.Intervals.{intervals_of, paired, spans}
-use Rattle.ld_ramping.specs.Turns.{listed, turn_among, turn_in, turns, turns_in}
-use Rattle.ld_ramping.proofs.SpanLemmas.{span_kept, span_left_out, span_open}
-use Rattle.ld_ramping.proofs.TurnLemmas.{Turned, up, down, stays, lacks, turn_case, turn_on, turn_off, turn_on-within, turn_off-within, turn_on-le, turn_off-le, Since, was_on, was_off, among_case}
+use Rattle.ld_ramping.specs.Intervals.{intervals_of}
+use Rattle.ld_ramping.specs.Rising.{AreRising}
+use Rattle.ld_ramping.proofs.TurnLemmas.{Turned, up, down, stays, lacks, turn_case, turn_on-le, turn_off-le}
 use Rattle.ld_ramping.proofs.OnLemmas.{on_in, on_within, is_on-stages}
 use Rattle.ld_ramping.proofs.RiseLemmas.{intervals_are_rising}
-use Rattle.std.proofs.lemmas.List.Elements.{All-head}
-use Rattle.ld_ramping.specs.Rising.{AreRising}
 
 -- the lower user of two is on where the other one is
 lower_within : (user other begin users moment : ℕ) (stage : Stage) (turn late : Option ℕ) → user ≤ other →
@@ -78,9 +76,9 @@ few_in user begin users moment most (stage ∷ later) le on =
     let numbers = map (λ (s : Stage). s.target) later in
     one_true (nat_lt moment (begin + stage.length)) _ _ (user ≤ fold max (max most stage.target) numbers)
     (λ within.
-        let few = few_within user begin users moment stage _ (turn_case user begin users stage) within in
-        let more = le-fold_max (max most stage.target) numbers in
-        omega arith)
+    let few = few_within user begin users moment stage _ (turn_case user begin users stage) within in
+    let more = le-fold_max (max most stage.target) numbers in
+    omega arith)
     (few_in user (begin + stage.length) stage.target moment (max most stage.target) later (omega arith))
     on
 
@@ -98,21 +96,21 @@ first_pass p lower a (suc n) few u from =
     let some = count_by p (range_with_len (a + 1) n) in
     ⊎_elim
     (λ (yes : p a ≡ true).
-        let count : count_by p (range_with_len a (suc n)) ≡ 1 + some = sum ∙ ap (λ test. cond test 1 0 + some) yes in
-        ⊎_elim
-        (λ (behind : a < u).
-            let same = so u (omega arith) in (
-              λ on. let less : u < a + 1 + some = same.0 on in omega arith,
-              λ less. same.1 (omega arith),
-            ))
-        (λ (here_or_before : u ≤ a). (λ on. omega arith, λ less. lower u a here_or_before yes))
-        (cases_lt a u))
+    let count : count_by p (range_with_len a (suc n)) ≡ 1 + some = sum ∙ ap (λ test. cond test 1 0 + some) yes in
+    ⊎_elim
+    (λ (behind : a < u).
+    let same = so u (omega arith) in (
+      λ on. let less : u < a + 1 + some = same.0 on in omega arith,
+      λ less. same.1 (omega arith),
+    ))
+    (λ (here_or_before : u ≤ a). (λ on. omega arith, λ less. lower u a here_or_before yes))
+    (cases_lt a u))
     (λ (fails : p a ≡ false).
-        let count : count_by p (range_with_len a (suc n)) ≡ 0 + some = sum ∙ ap (λ test. cond test 1 0 + some) fails in
-        let next = so (a + 1) (omega arith) in (
-          λ on. absurd (true≢false (sym (lower a u from on) ∙ fails)),
-          λ less. absurd (true≢false (sym (lower a (a + 1) (omega arith) (next.1 (omega arith))) ∙ fails)),
-        ))
+    let count : count_by p (range_with_len a (suc n)) ≡ 0 + some = sum ∙ ap (λ test. cond test 1 0 + some) fails in
+    let next = so (a + 1) (omega arith) in (
+      λ on. absurd (true≢false (sym (lower a u from on) ∙ fails)),
+      λ less. absurd (true≢false (sym (lower a (a + 1) (omega arith) (next.1 (omega arith))) ∙ fails)),
+    ))
     (cases_Bool (p a))
 
 pub are_first_ones : (user start : ℕ) (stages : List Stage) (moment : ℕ) → 0 < user →
@@ -120,7 +118,7 @@ pub are_first_ones : (user start : ℕ) (stages : List Stage) (moment : ℕ) →
 are_first_ones user start stages moment from =
     let p = λ (u : ℕ). is_on u start stages moment in
     let same = first_pass p (λ u v. is_on-lower u v start moment stages) 1 (ramp_users start stages)
-        (λ u on. let few = is_on-few u start moment stages on in omega arith) user (omega arith) in (
+    (λ u on. let few = is_on-few u start moment stages on in omega arith) user (omega arith) in (
       λ on. let less : user < 1 + active start stages moment = same.0 on in omega arith,
       λ le. same.1 (omega arith),
     )

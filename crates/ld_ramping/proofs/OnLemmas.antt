@@ -1,16 +1,14 @@
 -- A user is on at a moment by its intervals as by the stage that the moment lies in.
-use Rattle.std.proofs.Common.{◌≡◌, ◌∙◌, ◌<◌, ◌≤◌, ◌+◌, ◌++◌, ◌&&◌, ◌||◌, ◌↔◌, Bool, true, false, cond, if◌then◌else◌, ℕ, zero, suc, true≢false, List, [], ◌∷◌, Option, Some, None, ap, arith, count_by, fold, map, max, nat_le, nat_lt, refl, sym, ⊎_elim}
-use Rattle.std.specs.List.{list_any, range_with_len}
-use Rattle.std.proofs.lemmas.Bool.{cases_Bool, cases_lt, le-leb, le-ltb, leb-true, lt-leb, lt-ltb, ltb-true}
+use Rattle.std.proofs.Common.{◌≡◌, ◌∙◌, ◌<◌, ◌≤◌, ◌+◌, ◌++◌, ◌&&◌, ◌||◌, Bool, true, false, cond, if◌then◌else◌, ℕ, List, [], ◌∷◌, Option, Some, None, ap, arith, nat_le, nat_lt, refl, sym, ⊎_elim}
+use Rattle.std.specs.List.{list_any}
+use Rattle.std.proofs.lemmas.Bool.{cases_lt, le-leb, le-ltb, lt-leb}
 use Rattle.std.proofs.lemmas.Bool.Decides.{nat_tests}
-use Rattle.std.proofs.lemmas.List.Sums.{sum_by-cons}
 use Rattle.ld_base.specs.declared.stage.Stage.{Stage}
-use Rattle.ld_ramping.specs.Active.{active, has_moment, is_on, ramp_users}
-use Rattle.ld_ramping.specs.declared.interval.Interval.{Interval}
-use Rattle.ld_ramping.specs.Intervals.{intervals_of, paired, spans}
-use Rattle.ld_ramping.specs.Turns.{listed, turn_among, turn_in, turns, turns_in}
-use Rattle.ld_ramping.proofs.SpanLemmas.{span_kept, span_left_out, span_open}
-use Rattle.ld_ramping.proofs.TurnLemmas.{Turned, up, down, stays, lacks, turn_case, turn_on, turn_off, turn_on-within, turn_off-within, turn_on-le, turn_off-le, Since, was_on, was_off, among_case}
+use Rattle.ld_ramping.specs.Active.{has_moment, is_on}
+use Rattle.ld_ramping.specs.Intervals.{paired, spans}
+use Rattle.ld_ramping.specs.Turns.{listed, turn_among, turn_in, turns_in}
+use Rattle.ld_ramping.proofs.SpanLemmas.{span_kept, span_left_out}
+use Rattle.ld_ramping.proofs.TurnLemmas.{Turned, up, down, stays, lacks, turn_case, turn_on, turn_off, turn_on-within, turn_off-within, Since, was_on, was_off, among_case}
 
 -- whether a user is on at a moment of a stage that begins with so many users and makes this turn
 abbrev pub on_within : (user users moment : ℕ) → Option ℕ → Bool
@@ -66,17 +64,17 @@ span_on : (on off moment : ℕ) (rest : List ℕ) →
 span_on on off moment rest = ⊎_elim
     (λ (less : on < off). ap (list_any (has_moment moment)) (span_kept on off rest less))
     (λ (le : off ≤ on). ap (list_any (has_moment moment)) (span_left_out on off rest le)
-        ∙ ap (λ test. test || on_spans moment rest) (sym (empty_test on off moment le)))
+    ∙ ap (λ test. test || on_spans moment rest) (sym (empty_test on off moment le)))
     (cases_lt on off)
 
 -- what the turns from a stage on say, where those from the next one on say it
 stage_on : (user begin users moment : ℕ) (stage : Stage) (since turn : Option ℕ) (rest : List ℕ) (later : Bool) →
     Since user users begin since → Turned user begin users stage turn →
     ((held : Option ℕ) → Since user stage.target (begin + stage.length) held →
-        on_spans moment (listed held ++ rest) ≡ cond (nat_lt moment (begin + stage.length)) (on_since moment held) later) →
+    on_spans moment (listed held ++ rest) ≡ cond (nat_lt moment (begin + stage.length)) (on_since moment held) later) →
     on_spans moment (listed since ++ (listed turn ++ rest))
     ≡ cond (nat_lt moment begin) (on_since moment since)
-        (cond (nat_lt moment (begin + stage.length)) (on_within user users moment turn) later)
+    (cond (nat_lt moment (begin + stage.length)) (on_within user users moment turn) later)
 stage_on user begin users moment stage _ _ rest later (was_off out) (up _ below) so =
     let turn = turn_on user begin users stage in
     let within = turn_on-within user begin users stage out below in
@@ -123,7 +121,7 @@ turns_on user begin users moment (stage ∷ later) since held =
     (turns_in user (begin + stage.length) stage.target later) (on_in user (begin + stage.length) stage.target moment later)
     held (turn_case user begin users stage)
     (λ (next : Option ℕ) (so : Since user stage.target (begin + stage.length) next).
-        turns_on user (begin + stage.length) stage.target moment later next so)
+    turns_on user (begin + stage.length) stage.target moment later next so)
 
 -- a user is on by its intervals as by its stages
 pub is_on-stages : (user start moment : ℕ) (stages : List Stage) → is_on user start stages moment ≡ on_in user 0 start moment stages

@@ -1,14 +1,14 @@
 -- Turns climb, and spans of turns that climb rise.
-use Rattle.std.proofs.Common.{◌≡◌, Bool, true, false, if◌then◌else◌, ◌<◌, ◌≤◌, ◌+◌, ◌++◌, ℕ, List, [], ◌∷◌, All, AllPairs, Option, Some, None, arith, filter, nat_le, nat_lt, sum_by, subst, sym}
+use Rattle.std.proofs.Common.{◌≡◌, Bool, true, false, if◌then◌else◌, ◌<◌, ◌≤◌, ◌+◌, ◌++◌, ℕ, List, [], ◌∷◌, All, AllPairs, Option, Some, None, arith, filter, nat_le, nat_lt, sum_by, subst}
 use Rattle.std.proofs.lemmas.Bool.{ltb-true}
 use Rattle.std.proofs.lemmas.List.Elements.{All-cons, All-filter, All-nil, All-weaker, filter_passes}
 use Rattle.std.proofs.lemmas.List.Kept.{AllPairs-cons, AllPairs-filter}
 use Rattle.std.proofs.lemmas.List.Sums.{sum_by-cons}
 use Rattle.ld_base.specs.declared.stage.Stage.{Stage}
 use Rattle.ld_ramping.specs.declared.interval.Interval.{Interval}
-use Rattle.ld_ramping.specs.Intervals.{intervals_of, paired, spans}
+use Rattle.ld_ramping.specs.Intervals.{intervals_of, paired}
 use Rattle.ld_ramping.specs.Rising.{AreRising, EndBy}
-use Rattle.ld_ramping.specs.Turns.{listed, turn_among, turn_in, turns, turns_in}
+use Rattle.ld_ramping.specs.Turns.{listed, turn_in, turns, turns_in}
 use Rattle.ld_ramping.proofs.TurnLemmas.{Turned, up, down, stays, lacks, turn_case, turn_on-within, turn_off-within}
 
 -- the moments don't fall, and lie between these two
@@ -51,7 +51,7 @@ turns_climb user begin users [] = end_climbs (nat_le user users) begin
 turns_climb user begin users (stage ∷ later) =
     let sum = sum_by-cons (λ (s : Stage). s.length) stage later in
     let same : begin + stage.length + sum_by (λ (s : Stage). s.length) later ≡ begin + sum_by (λ (s : Stage). s.length) (stage ∷ later) =
-        omega arith in
+    omega arith in
     stage_climbs user begin users _ stage (turn_in user begin users stage) _ (turn_case user begin users stage)
     (subst (λ high. Climb (begin + stage.length) high (turns_in user (begin + stage.length) stage.target later)) same
     (turns_climb user (begin + stage.length) stage.target later))

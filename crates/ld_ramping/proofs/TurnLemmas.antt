@@ -1,5 +1,5 @@
 -- What a stage does to a user: it turns it on or off within the stage, or leaves it on or off.
-use Rattle.std.proofs.Common.{◌≡◌, ◌<◌, ◌≤◌, ◌+◌, ◌-◌, ◌*◌, ◌/◌, ℕ, Option, Some, None, arith, refl, subst, sym}
+use Rattle.std.proofs.Common.{◌<◌, ◌≤◌, ◌+◌, ◌-◌, ◌*◌, ◌/◌, ℕ, Option, Some, None, arith, subst}
 use Rattle.std.proofs.Common.{mul_comm, le_trans, mul-le-mul_left, ⊎_elim}
 use Rattle.std.proofs.Math.Nat.{mul-div-le, div-le_of_le-mul}
 use Rattle.std.proofs.lemmas.Bool.{cases_lt, le-leb, le-ltb, lt-leb, lt-ltb}
@@ -21,7 +21,7 @@ pub share-le : (length less more whole : ℕ) → 0 < whole → less ≤ more �
 unfolding share
 share-le length less more whole some le =
     let down : length * less / whole * whole ≤ length * less =
-        subst (λ n. n ≤ length * less) (mul_comm whole (length * less / whole)) (mul-div-le (length * less) whole) in
+    subst (λ n. n ≤ length * less) (mul_comm whole (length * less / whole)) (mul-div-le (length * less) whole) in
     le-div (length * less / whole) (length * more) whole some (le_trans down (mul-le-mul_left length le))
 
 -- when the stage turns the user on, and off
@@ -44,17 +44,17 @@ turn_case user begin users stage =
     let over = cases_lt stage.target user in
     ⊎_elim
     (λ (out : users < user). ⊎_elim
-        (λ (above : stage.target < user).
-            simp (lt-ltb users user out, lt-ltb stage.target user above, lt-leb user stage.target above, lt-leb user users out) (lacks out above))
-        (λ (below : user ≤ stage.target).
-            simp (lt-ltb users user out, le-leb user stage.target below) (up out below))
-        over)
+    (λ (above : stage.target < user).
+    simp (lt-ltb users user out, lt-ltb stage.target user above, lt-leb user stage.target above, lt-leb user users out) (lacks out above))
+    (λ (below : user ≤ stage.target).
+    simp (lt-ltb users user out, le-leb user stage.target below) (up out below))
+    over)
     (λ (among : user ≤ users). ⊎_elim
-        (λ (above : stage.target < user).
-            simp (le-ltb users user among, lt-ltb stage.target user above, le-leb user users among) (down above among))
-        (λ (below : user ≤ stage.target).
-            simp (le-ltb users user among, le-ltb stage.target user below) (stays among below))
-        over)
+    (λ (above : stage.target < user).
+    simp (le-ltb users user among, lt-ltb stage.target user above, le-leb user users among) (down above among))
+    (λ (below : user ≤ stage.target).
+    simp (le-ltb users user among, le-ltb stage.target user below) (stays among below))
+    over)
     (cases_lt users user)
 
 -- turns lie within their stage

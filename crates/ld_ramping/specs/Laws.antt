@@ -21,4 +21,5 @@ FirstOnes = (user start : ℕ) (stages : List Stage) (moment : ℕ) → 0 < user
 
 -- a user above the greatest number of users has no interval
 abbrev pub NoneBeyond : Type 0
-NoneBeyond = (user start : ℕ) (stages : List Stage) → ramp_users start stages < user → intervals_of user start stages ≡ []
+NoneBeyond = (user start : ℕ) (stages : List Stage) → ramp_users start stages < user →
+    intervals_of user start stages ≡ []

@@ -10,8 +10,8 @@ pub fn end_in_time()
     ensures { EndInTime }
 {}
 
-/// The ramping users that are on at a moment are the first ones: a user, counted from 1, is on exactly
-/// where at least so many users are.
+/// The ramping users that are on at a moment are the first ones: user `u`, counted from 1, is on exactly
+/// where `u` users or more are.
 pub fn first_ones()
     ensures { FirstOnes }
 {}

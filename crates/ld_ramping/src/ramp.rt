@@ -11,8 +11,8 @@ use std::alloc::{AllocError, Global};
 
 /// The intervals in which a slot is on, in order, where `start` users are on at the scenario's begin and
 /// the stages, together no longer than 30 days, turn users on and off. The slot's user is `slot + 1`,
-/// counted from 1. All are off at the end of the last stage. None of the intervals is empty, each is over
-/// when a later one begins, and all are when the stages are.
+/// counted from 1. No interval is empty, each is over when a later one begins, and all are over at the end
+/// of the last stage.
 ///
 /// Fails where there is no memory for them.
 pub fn intervals(
