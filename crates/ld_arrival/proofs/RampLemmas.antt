@@ -1,9 +1,9 @@
 -- When stages reach what is wanted: later where more is wanted, and before their end only what they have.
 use Rattle.std.proofs.Common.{◌≡◌, ◌<◌, ◌≤◌, ◌+◌, ◌-◌, ◌*◌, ◌&&◌, ℕ, Bool, true, false, List, [], ◌∷◌, inl, inr, arith, subst}
-use Rattle.std.specs.Prelude.{Option, None, Some, unwrap_or}
+use Rattle.std.specs.Prelude.{Option, None, Some, nat_le, unwrap_or}
 use Rattle.std.proofs.Math.Nat.{le_of_mul-le-mul_left, mul-le-mul_left}
 use Rattle.std.proofs.Math.Decide.{dec_lt}
-use Rattle.std.proofs.lemmas.Bool.{and_from, and_left, and_right, both_ways, cases_Bool, leb-true, le-leb, lt-ltb, ltb-true}
+use Rattle.std.proofs.lemmas.Bool.{and_from, and_left, and_right, both_ways, cases_Bool, leb-true, le-leb, lt-leb, lt-ltb, ltb-true}
 use Rattle.std.proofs.lemmas.List.Sums.{sum_by-cons}
 use Rattle.ld_base.specs.declared.stage.Stage.{Stage}
 use Rattle.ld_arrival.specs.Ramp.{first_reached, is_reached, ramp_length, ramp_sum, reached_at, stage_sum}
@@ -84,6 +84,27 @@ reached_most rate done wanted stage t within is =
     let has = has_reached rate done wanted stage stage.length (reached_on rate done wanted stage t stage.length within (omega arith) is) in
     let enough = has.enough in
     le_of_mul-le-mul_left {k = stage.length} (omega (arith, enough)) has.lasts
+
+-- a stage of some length reaches in all what it has
+pub reached_at_all : (rate done wanted : ℕ) (stage : Stage) → 0 < stage.length →
+    nat_le wanted (done + stage_sum rate stage) ≡ is_reached rate done wanted stage stage.length
+reached_at_all rate done wanted stage lasts =
+    elim (cases_Bool (is_reached rate done wanted stage stage.length)) [
+      | inl passes ↦
+          let enough = le-leb wanted (done + stage_sum rate stage) (reached_most rate done wanted stage stage.length (omega arith) passes) in
+          cc (enough, passes)
+      | inr fails ↦
+          elim (dec_lt (done + stage_sum rate stage) wanted) [
+            | yes less ↦
+                let too_much = lt-leb wanted (done + stage_sum rate stage) less in
+                cc (too_much, fails)
+            | no above ↦
+                let within : wanted ≤ done + stage_sum rate stage = omega (arith, above) in
+                let times = mul-le-mul_left stage.length within in
+                let passes = is_reached_where rate done wanted stage stage.length (record { lasts = lasts; enough = omega (arith, times) }) in
+                absurd (both_ways (is_reached rate done wanted stage stage.length) fails passes)
+          ]
+    ]
 
 -- a stage and later ones reach before their end only what they have, where the later ones do
 within_first : (rate done wanted most : ℕ) (stage : Stage) (later ends : ℕ) → (later < ends → wanted ≤ done + stage_sum rate stage + most) →

@@ -30,7 +30,7 @@ impl RampStage {
         ensures first { result ≡ first_reached self.rate self.done wanted self.stage }
         ensures within { IfSome result (λ t. t ≤ self.stage.length) }
     {
-        if !self.is_reached(wanted, self.stage.length) {
+        if !self.is_reached_at_all(wanted) {
             return None;
         }
         let mut low = 0;
@@ -44,6 +44,14 @@ impl RampStage {
             }
         }
         Some(low)
+    }
+
+    // Whether the stage has reached `wanted` at its end: the sum alone tells it.
+    fn is_reached_at_all(self, wanted: u128) -> bool
+        requires { IsSmallStage self }
+        ensures { result ≡ is_reached self.rate self.done wanted self.stage self.stage.length }
+    {
+        self.stage.length > 0 && wanted <= self.sum()
     }
 
     // Whether the stage has reached `wanted` at `t`, in nanoseconds from its begin.

@@ -3,10 +3,10 @@ use Rattle.ld_arrival.specs.Ramp.{is_reached}
 use Rattle.ld_arrival.proofs.RampLemmas.{first_is, none_before, none_reached}
 use Rattle.ld_arrival.proofs.ramp_stage.RampStage.first_reached.Goals as goal
 
-pub returns-then-not-is_reached-clause-first : goal.returns-then-not-is_reached-clause-first
-returns-then-not-is_reached-clause-first c =
-    let is = c.is_reached.ensures in
-    let test = c.if-not-is_reached.true in
+pub returns-then-not-is_reached_at_all-clause-first : goal.returns-then-not-is_reached_at_all-clause-first
+returns-then-not-is_reached_at_all-clause-first c =
+    let is = c.is_reached_at_all.ensures in
+    let test = c.if-not-is_reached_at_all.true in
     none_reached c.args.self.rate c.args.self.done c.args.wanted c.args.self.stage (cc (is, test))
 
 pub loop-low-preserved : goal.loop-low-preserved
@@ -15,7 +15,7 @@ loop-low-preserved c =
     let before = so_far.0 in
     let within = so_far.1 in
     let test = c.loop-low-test.true in
-    let is = c.is_reached-in-loop-low.ensures in
+    let is = c.is_reached.ensures in
     let fails = c.if-is_reached.false in (
       omega arith,
       within,
