@@ -15,8 +15,8 @@ use Rattle.ld_machine.specs.State.{opening_share}
 use Rattle.ld_machine.specs.Told.{MayBeTold}
 use Rattle.ld_seats.specs.Seating.{IsSeating, SeatingView}
 
--- what is kept of such a scenario: its course, what its slots have left to start, the owned slots that have something left
--- to start, rising, and the seating of its users
+-- what is kept of such a scenario: its course, what its slots have left to start, the owned slots that have
+-- something left to start, rising, and the seating of its users
 pub record SlotsView : Type 0 where
   pub course : Course
   pub work : Work

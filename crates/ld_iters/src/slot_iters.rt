@@ -25,9 +25,9 @@ use ld_set::NumberSet;
 use std::alloc::{AllocError, Global};
 use std::marker::Model;
 
-/// One scenario whose users have slots of their own, as it stands: its course, what its slots have left to start, and the
-/// seating of its users. Users are numbered from 1 to 1,000, and slots from 0 to 999. Readings and moments are in
-/// nanoseconds from the run's start.
+/// One scenario whose users have slots of their own, as it stands: its course, what its slots have left to start,
+/// and the seating of its users. Users are numbered from 1 to 1,000, and slots from 0 to 999. Readings and moments
+/// are in nanoseconds from the run's start.
 #[derive(Drop)]
 pub struct SlotIters {
     course: Course,
@@ -42,7 +42,8 @@ impl Model for SlotIters {
 
     ghost Value = { SlotsView };
 
-    ghost view = { λ s. record { course = s.course; work = s.work; going = s.going.numbers; seating = s.seating } };
+    ghost view = { λ s.
+        record { course = s.course; work = s.work; going = s.going.numbers; seating = s.seating } };
 }
 
 impl SlotIters {
@@ -167,7 +168,8 @@ impl SlotIters {
 
     // Starts the next item of a user's slot.
     fn start(&mut self, user: u32)
-        ensures { (slot : ℕ) → slice_get self.old.seating.seats.slot_of user ≡ Some slot → HasPassed slot self.old self.new }
+        ensures { (slot : ℕ) → slice_get self.old.seating.seats.slot_of user ≡ Some slot →
+            HasPassed slot self.old self.new }
     {
         if let Some(slot) = self.seating.slot_of(user) {
             self.pass(slot);
@@ -204,9 +206,10 @@ impl SlotIters {
 
     // The slots whose users may be released when they are idle, if there are any.
     fn released(&self, reading: u64) -> Option<Which<'_>>
-        ensures some { IfSome result (λ which. (s : Scenario) (slot : ℕ) → Shows self.now s → Contains (owned_slots s.part.executor) slot →
-            may_release s slot reading ≡ is_of which slot) }
-        ensures none { IfNone result ((s : Scenario) (slot : ℕ) → Shows self.now s → may_release s slot reading ≡ false) }
+        ensures some { IfSome result (λ which. (s : Scenario) (slot : ℕ) → Shows self.now s →
+            Contains (owned_slots s.part.executor) slot → may_release s slot reading ≡ is_of which slot) }
+        ensures none { IfNone result ((s : Scenario) (slot : ℕ) → Shows self.now s →
+            may_release s slot reading ≡ false) }
     {
         if self.course.closed {
             None

@@ -24,4 +24,5 @@ pub record IsChosen (s : Scenario) (passes : ℕ → Bool) (prefer user slot : �
   pub user_is : one.user ≡ user
   pub slot_is : one.slot ≡ slot
   pub fits : passes slot ≡ true
-  pub preferred : (h : HeldUser) → Contains (idle_users s.share) h → passes h.slot ≡ true → h.user ≡ prefer → user ≡ prefer
+  pub preferred : (h : HeldUser) → Contains (idle_users s.share) h → passes h.slot ≡ true → h.user ≡ prefer →
+      user ≡ prefer
