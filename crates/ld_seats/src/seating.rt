@@ -1,8 +1,8 @@
-ghost use Rattle.std.specs.Prelude.{◌≡◌, ◌<◌, ◌≤◌, ℕ, Contains, IfNone, IfOk, IfSome, Some, false, slice_get, true};
+ghost use Rattle.std.specs.Prelude.{◌≡◌, ◌≢◌, ◌<◌, ◌≤◌, ℕ, Contains, IfNone, IfOk, IfSome, Some, false, slice_get, true};
 ghost use Rattle.ld_machine.specs.Scenario.{Scenario};
 ghost use Rattle.ld_machine.specs.State.{HeldUser, idle_users};
 ghost use Rattle.ld_seats.specs.Changes.{busied, rested, seated, vacated};
-ghost use Rattle.ld_seats.specs.Choice.{IsChosen, is_meant, is_of};
+ghost use Rattle.ld_seats.specs.Choice.{IsChosen, IsLeastMeant, is_meant, is_of};
 ghost use Rattle.ld_seats.specs.Seating.{Follows, IsOpening, IsSeating};
 ghost use Rattle.ld_seats.specs.Seats.{IsSeat};
 
@@ -111,6 +111,7 @@ impl Seating {
             IsChosen s (is_of which.entry) prefer pair.0 pair.1) }
         ensures none { IfNone result ((s : Scenario) (h : HeldUser) → IsSeating self.now s →
             Contains (idle_users s.share) h → is_of which.entry h.slot ≡ false) }
+        ensures least { IfSome result (λ pair. pair.0 ≢ prefer → IsLeastMeant which.entry self.now pair.1) }
     {
         let slot = self.chosen_slot(which, prefer)?;
         let user = self.seats.user_of(slot)?;
@@ -123,6 +124,8 @@ impl Seating {
         ensures none { IfNone result ((slot : ℕ) → is_meant which.entry self.now slot ≡ false) }
         ensures preferred { (slot : ℕ) → IsSeat self.now.seats prefer slot → is_meant which.entry self.now slot ≡ true →
             result ≡ Some slot }
+        ensures least { IfSome result (λ slot. slice_get self.now.seats.user_of slot ≢ Some prefer →
+            IsLeastMeant which.entry self.now slot) }
     {
         if let Some(slot) = self.preferred_slot(which, prefer) {
             return Some(slot);
