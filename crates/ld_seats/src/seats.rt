@@ -1,5 +1,5 @@
 ghost use Rattle.std.specs.Prelude.{◌≡◌, ◌<◌, ◌≤◌, IfOk, length, slice_get, slice_set};
-ghost use Rattle.ld_iters.specs.Seats.{IsSeat};
+ghost use Rattle.ld_seats.specs.Seats.{IsSeat};
 
 use std::alloc::{AllocError, Global};
 use std::marker::Model;
@@ -19,7 +19,7 @@ pub struct Seats {
 
 impl Model for Seats {
     ghost use Rattle.std.specs.Prelude.{◌≡◌, length};
-    ghost use Rattle.ld_iters.specs.Seats.{SeatsView};
+    ghost use Rattle.ld_seats.specs.Seats.{SeatsView};
 
     ghost Value = { SeatsView };
 
@@ -45,7 +45,8 @@ impl Seats {
     pub fn put(&mut self, user: u32, slot: u32)
         requires user { user ≤ 1000 }
         requires slot { slot < 1000 }
-        ensures put { self.new ≡ record { slot_of = slice_set self.old.slot_of user slot; user_of = slice_set self.old.user_of slot user } }
+        ensures put { self.new ≡
+            record { slot_of = slice_set self.old.slot_of user slot; user_of = slice_set self.old.user_of slot user } }
         ensures seat { IsSeat self.new user slot }
     {
         self.slots[user as usize] = slot;

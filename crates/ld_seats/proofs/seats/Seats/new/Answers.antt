@@ -1,6 +1,6 @@
 use Rattle.std.proofs.Common.{◌≡◌, ℕ, replicate}
 use Rattle.std.proofs.lemmas.List.{length-replicate}
-use Rattle.ld_iters.proofs.seats.Seats.new.Goals as goal
+use Rattle.ld_seats.proofs.seats.Seats.new.Goals as goal
 
 pub invariant_of-result : goal.invariant_of-result
 invariant_of-result c =

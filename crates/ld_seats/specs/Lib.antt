@@ -1,0 +1,4 @@
+pub mod Seats
+pub mod Seating
+pub mod Changes
+pub mod Choice
