@@ -7,6 +7,7 @@ mod interval;
 mod laws;
 mod ramp;
 mod slot;
+mod turn_places;
 
 pub use examples::{worked_counts, worked_ramps};
 pub use fault::ExecFault;
