@@ -1,2 +1,5 @@
 pub mod NumbersLemmas
 pub mod HeldSlotsLemmas
+pub mod ApplyLemmas
+pub mod ChoiceLemmas
+pub mod OpeningLemmas

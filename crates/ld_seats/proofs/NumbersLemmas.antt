@@ -1,5 +1,5 @@
 -- Numbers among others, and those of rising ones that pass a test, when the test changes at one number.
-use Rattle.std.proofs.Common.{◌≡◌, ◌≢◌, ◌≤◌, ◌<◌, ◌+◌, ◌==◌, ◌&&◌, ◌||◌, ◌∙◌, if◌then◌else◌, ℕ, zero, suc, Bool, true, false, cond, not, nat_lt, List, [], ◌∷◌, length, None, Some, filter, slice_get, slice_index, arith, refl, sym, ap, subst, inl, inr}
+use Rattle.std.proofs.Common.{◌≡◌, ◌≢◌, ◌≤◌, ◌<◌, ◌+◌, ◌==◌, ◌&&◌, ◌||◌, ◌∙◌, if◌then◌else◌, ℕ, zero, suc, Bool, true, false, cond, not, nat_lt, List, [], ◌∷◌, length, None, Some, filter, slice_get, slice_index, slice_set, arith, refl, sym, ap, subst, inl, inr}
 use Rattle.std.specs.List.Sorted.{IsStrictlyIncreasing}
 use Rattle.std.proofs.lemmas.Bool.{cases_eq, lt-ltb, le-ltb, ne_eqb, eqb-true, eqb-false, and_from}
 use Rattle.ld_machine.proofs.FirstOfAllLemmas.{false_unless}
@@ -207,3 +207,12 @@ none_passes p numbers e k =
 pub all_pass : (numbers : List ℕ) → filter (λ k. true) numbers ≡ numbers
 all_pass [] = refl
 all_pass (k ∷ rest) = ap (λ (more : List ℕ). k ∷ more) (all_pass rest)
+
+-- ---- a place of a list
+
+pub put_elsewhere : (xs : List ℕ) (i j v : ℕ) → j ≢ i → slice_get (slice_set xs i v) j ≡ slice_get xs j
+put_elsewhere [] i j v other = refl
+put_elsewhere (y ∷ ys) zero zero v other = absurd (other refl)
+put_elsewhere (y ∷ ys) zero (suc j) v other = refl
+put_elsewhere (y ∷ ys) (suc i) zero v other = refl
+put_elsewhere (y ∷ ys) (suc i) (suc j) v other = put_elsewhere ys i j v (λ e. other (ap suc e))
