@@ -51,4 +51,4 @@ pub record IsPlace (begin reading : ℕ) (intervals : List Interval) (place : �
 pub record IsSnapshot (standing : StandingView) (reading : ℕ) (on : SetView) : Type 0 where
   pub owned : AreOwned standing.slots
   pub limit : on.limit ≡ 1000
-  pub on : (slot : ℕ) → is_among on.numbers slot ≡ stands_on standing slot reading
+  pub each : (slot : ℕ) → is_among on.numbers slot ≡ stands_on standing slot reading

@@ -7,6 +7,7 @@ mod interval;
 mod laws;
 mod ramp;
 mod slot;
+mod standing;
 mod turn_places;
 
 pub use examples::{worked_counts, worked_ramps};

@@ -21,7 +21,7 @@ pub fn current(begin: u64, intervals: &[Interval], reading: u64) -> Option<Inter
 
 /// The least moment above the reading at which one of the intervals begins or ends, of a slot of a scenario with this
 /// begin. None exactly where there is none.
-pub fn next_turn(begin: u64, intervals: &[Interval], reading: u64) -> Option<u64>
+pub fn turn_above(begin: u64, intervals: &[Interval], reading: u64) -> Option<u64>
     requires { AreRising intervals.now }
     ensures { result ≡ least_above reading (slot_turns begin intervals.now) }
 {
