@@ -2,10 +2,8 @@ pub mod OwnedLemmas
 pub mod SharedLemmas
 pub mod SharedApplyLemmas
 pub mod SharedOpeningLemmas
-pub mod NumbersLemmas
 pub mod SlotItemsLemmas
 pub mod WorkLemmas
-pub mod HeldSlotsLemmas
 pub mod SlotsApplyLemmas
 pub mod SlotsLemmas
 pub mod SlotsTellLemmas

@@ -9,7 +9,7 @@ use Rattle.ld_iters.specs.SharedShows.{SharedView, Shows, sharers_of}
 use Rattle.ld_iters.specs.declared.iters_part.IterKind.{IterKind}
 use Rattle.ld_iters.specs.declared.iters_part.IterKind.TheVariants.{Shared}
 use Rattle.ld_iters.specs.declared.iters_part.ItersPart.{ItersPart}
-use Rattle.ld_iters.proofs.NumbersLemmas.{all_pass}
+use Rattle.ld_seats.proofs.NumbersLemmas.{all_pass}
 use Rattle.ld_machine.specs.Plan.{SharedIterations}
 use Rattle.ld_machine.specs.State as machine
 use Rattle.ld_machine.specs.Scenario.{Scenario, open_items}

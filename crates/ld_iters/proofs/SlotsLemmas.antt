@@ -1,27 +1,24 @@
 -- What a state of users with slots says of the scenario that it shows.
-use Rattle.std.proofs.Common.{Contains, ◌≡◌, ◌==◌, ◌&&◌, ◌||◌, ◌∙◌, ℕ, Bool, true, false, not, List, [], Option, None, Some, IfNone, IfSome, filter, map, flat_map, slice_get, refl, sym, ap, subst, rules}
+use Rattle.std.proofs.Common.{Contains, ◌≡◌, ◌&&◌, ◌||◌, ◌∙◌, ℕ, Bool, true, false, not, List, [], Option, None, Some, IfNone, IfSome, filter, map, flat_map, slice_get, refl, sym, ap, subst, rules}
 use Rattle.std.specs.Prelude.{is_some}
-use Rattle.std.proofs.lemmas.Bool.{eqb-true, true≢false}
+use Rattle.std.proofs.lemmas.Bool.{true≢false}
 use Rattle.ld_course.specs.declared.course.Course.{Course}
 use Rattle.ld_course.proofs.FirstLemmas.{nobody_taken}
 use Rattle.ld_machine.specs.Plan.{Executor, SharedIterations, PerVuIterations, ConstantVus, RampingVus, ArrivalRate, ExternallyControlled, SlotItem, hard_moment, is_external, owned_slots}
-use Rattle.ld_machine.specs.State.{HeldUser, idle_users, is_idle}
 use Rattle.ld_machine.specs.Scenario.{Scenario, executor_item_to_start, executor_may_release, executor_may_take, executor_until, first_of, has_ended, is_held_slot, is_live, is_open, item_to_start, least_open_item, may_release, may_take, runs, slots_to_take, until_of, where_holds}
 use Rattle.ld_machine.specs.Moves.{TakeUser, Users, takes}
 use Rattle.ld_machine.specs.Told.{executor_next_item, users_fit}
 use Rattle.ld_machine.specs.Wishes.{has_arrivals}
 use Rattle.ld_machine.proofs.FirstOfAllLemmas.{In-of}
-use Rattle.ld_machine.proofs.ListLemmas.{In, In-filter, In-from_any, any-from_In, both_true, number_itself, Contains-from_In}
+use Rattle.ld_machine.proofs.ListLemmas.{In}
 use Rattle.ld_set.specs.SetView.{is_among}
 use Rattle.ld_set.proofs.NumberLemmas.{kept_twice}
-use Rattle.ld_iters.specs.Seats.{IsSeat}
-use Rattle.ld_iters.specs.SlotsChoice.{IsChosen, is_meant, is_of}
+use Rattle.ld_seats.specs.Choice.{IsChosen}
 use Rattle.ld_iters.specs.SlotsShows.{IsWork, Shows, SlotsView, executor_goes_on}
 use Rattle.ld_iters.specs.Work.{least_left, next_item}
-use Rattle.ld_iters.specs.declared.which.Which.{Which}
-use Rattle.ld_iters.specs.declared.which.Which.TheVariants.{Going}
 use Rattle.ld_iters.specs.declared.work.Work.{Work}
-use Rattle.ld_iters.proofs.NumbersLemmas.{among_kept, first_passes, kept_same, none_first, none_passes}
+use Rattle.ld_seats.proofs.NumbersLemmas.{among_kept, kept_same, none_first}
+use Rattle.ld_seats.proofs.ChoiceLemmas.{owned_in}
 use Rattle.ld_iters.proofs.WorkLemmas.{least_is, next_goes}
 
 -- what holds of the executors whose users have such slots
@@ -54,7 +51,7 @@ module _ (v : SlotsView) (s : Scenario) (shows : Shows v s) where
   e = s.part.executor
 
   abbrev of_e : (P : Executor → Type 0) → ((slots : List ℕ) (items : List SlotItem) → P (PerVuIterations slots items)) → ((slots : List ℕ) → P (ConstantVus slots)) → P e
-  of_e P counted endless = of_slots P e s v.work shows.work counted endless
+  of_e P counted endless = of_slots P e s v.work shows.left.work counted endless
 
   -- ---- laws
 
@@ -100,71 +97,10 @@ module _ (v : SlotsView) (s : Scenario) (shows : Shows v s) where
   -- ---- what is kept
 
   going_is : (slot : ℕ) → In slot (owned_slots s.part.executor) → is_among v.going slot ≡ executor_goes_on s.part.executor s slot
-  going_is slot at = ap (λ (k : List ℕ). is_among k slot) shows.going ∙ among_kept (executor_goes_on e s) slot (owned_slots e) at
+  going_is slot at = ap (λ (k : List ℕ). is_among k slot) shows.left.going ∙ among_kept (executor_goes_on e s) slot (owned_slots e) at
 
   pub least_shown : least_left v.work v.going ≡ least_open_item s
-  least_shown = ap (least_left v.work) shows.going ∙ sym (least_is e s v.work shows.rising shows.work)
-
-  pub owned_in : (h : HeldUser) → Contains (idle_users s.share) h → In h.slot (owned_slots s.part.executor)
-  owned_in h idle =
-      let at = In-filter is_idle h s.share.held (In-of idle) in
-      In-of (shows.seats h (Contains-from_In h at.0)).owned
-
-  idle_seat : (h : HeldUser) → Contains (idle_users s.share) h → IsSeat v.seats h.user h.slot
-  idle_seat h idle =
-      let at = In-filter is_idle h s.share.held (In-of idle) in (shows.seats h (Contains-from_In h at.0)).seat
-
-  idle_among : (h : HeldUser) → Contains (idle_users s.share) h → is_among v.idle h.slot ≡ true
-  idle_among h idle = shows.idle h.slot ∙ any-from_In (λ (g : HeldUser). g.slot == h.slot) h (In-of idle) (number_itself h.slot)
-
-  idle_on : (slot : ℕ) → is_among v.idle slot ≡ true → (h : HeldUser) × Contains (idle_users s.share) h × (h.slot ≡ slot)
-  idle_on slot among =
-      let found = In-from_any (λ (g : HeldUser). g.slot == slot) (idle_users s.share) (sym (shows.idle slot) ∙ among) in
-      (found.0, Contains-from_In found.0 found.1, eqb-true found.0.slot slot found.2)
-
-  -- ---- the idle user that is chosen
-
-  pub has_user : (which : Which) (slot : ℕ) → is_meant which v slot ≡ true → slice_get v.seats.user_of slot ≡ None → ⊥
-  has_user which slot meant none =
-      let both = both_true (is_among v.idle slot) (is_of which v slot) meant in
-      let found = idle_on slot both.0 in
-      let its : slice_get v.seats.user_of slot ≡ Some found.0.user = ap (slice_get v.seats.user_of) (sym found.2) ∙ (idle_seat found.0 found.1).user_is in
-      cc
-
-  pub is_chosen : (which : Which) (prefer user slot : ℕ) → is_meant which v slot ≡ true → slice_get v.seats.user_of slot ≡ Some user →
-      ((k : ℕ) → IsSeat v.seats prefer k → is_meant which v k ≡ true → Some slot ≡ Some k) → IsChosen s (is_of which v) prefer user slot
-  is_chosen which prefer user slot meant its_user preferred =
-      let both = both_true (is_among v.idle slot) (is_of which v slot) meant in
-      let found = idle_on slot both.0 in
-      let its : slice_get v.seats.user_of slot ≡ Some found.0.user = ap (slice_get v.seats.user_of) (sym found.2) ∙ (idle_seat found.0 found.1).user_is in
-      record {
-        one = found.0;
-        idle = found.1;
-        user_is = cc;
-        slot_is = found.2;
-        fits = both.1;
-        preferred = λ h idle fits same.
-            let seat = idle_seat h idle in
-            let own : IsSeat v.seats prefer h.slot = subst (λ k. IsSeat v.seats k h.slot) same seat in
-            let on : is_meant which v h.slot ≡ true = rw (idle_among h idle) fits in
-            let at = preferred h.slot own on in
-            let slots : slot ≡ h.slot = cc in
-            let users : Some user ≡ Some h.user = sym its_user ∙ ap (slice_get v.seats.user_of) slots ∙ seat.user_is in
-            cc;
-      }
-
-  -- whoever is chosen by one test is by another that agrees with it
-  pub chosen_as : (p q : ℕ → Bool) (prefer user slot : ℕ) → ((h : HeldUser) → Contains (idle_users s.share) h → q h.slot ≡ p h.slot) →
-      IsChosen s p prefer user slot → IsChosen s q prefer user slot
-  chosen_as p q prefer user slot agree chosen =
-      record {
-        one = chosen.one;
-        idle = chosen.idle;
-        user_is = chosen.user_is;
-        slot_is = chosen.slot_is;
-        fits = subst (λ k. q k ≡ p k) chosen.slot_is (agree chosen.one chosen.idle) ∙ chosen.fits;
-        preferred = λ h idle fits same. chosen.preferred h idle (sym (agree h idle) ∙ fits) same;
-      }
+  least_shown = ap (least_left v.work) shows.left.going ∙ sym (least_is e s v.work shows.seating.rising shows.left.work)
 
   -- ---- Release
 
@@ -180,7 +116,7 @@ module _ (v : SlotsView) (s : Scenario) (shows : Shows v s) where
 
   -- ---- Take
 
-  taken_slots : (t : ℕ) → is_live s t ≡ true → filter (λ k. may_take s k t) (slots_to_take s.part.executor s) ≡ filter (is_among v.going) v.vacant
+  taken_slots : (t : ℕ) → is_live s t ≡ true → filter (λ k. may_take s k t) (slots_to_take s.part.executor s) ≡ filter (is_among v.going) v.seating.vacant
   taken_slots t live =
       ap (filter (λ k. may_take s k t)) slots_owned
       ∙ kept_same (λ k. may_take s k t) (λ k. not (is_held_slot s k) && is_among v.going k) (owned_slots e)
@@ -188,11 +124,11 @@ module _ (v : SlotsView) (s : Scenario) (shows : Shows v s) where
       ap (λ b. not (is_held_slot s k) && b) (going_is k at)
       ∙ sym (take_is k t ∙ ap (λ b. (b && not (is_held_slot s k)) && executor_goes_on e s k) live))
       ∙ sym (kept_twice (λ k. not (is_held_slot s k)) (is_among v.going) (owned_slots e))
-      ∙ ap (filter (is_among v.going)) (sym shows.vacant)
+      ∙ ap (filter (is_among v.going)) (sym shows.seating.vacant)
 
-  none_taken : (n : ℕ) (users : Users) (t : ℕ) → is_live s t ≡ true → slice_get (filter (is_among v.going) v.vacant) 0 ≡ None → takes n s users t ≡ []
+  none_taken : (n : ℕ) (users : Users) (t : ℕ) → is_live s t ≡ true → slice_get (filter (is_among v.going) v.seating.vacant) 0 ≡ None → takes n s users t ≡ []
   none_taken n users t live none =
-      ap (flat_map (λ slot. map (λ user. TakeUser n user slot) users.free)) (taken_slots t live ∙ none_first (filter (is_among v.going) v.vacant) none)
+      ap (flat_map (λ slot. map (λ user. TakeUser n user slot) users.free)) (taken_slots t live ∙ none_first (filter (is_among v.going) v.seating.vacant) none)
 
   -- ---- Start
 
@@ -209,43 +145,30 @@ module _ (v : SlotsView) (s : Scenario) (shows : Shows v s) where
   starts_next : (slot t : ℕ) → In slot (owned_slots s.part.executor) → is_live s t ≡ true → is_among v.going slot ≡ true → item_to_start s slot t ≡ next_item v.work slot
   starts_next slot t at live goes =
       start_is slot t ∙ where_true (is_live s t) (executor_next_item e s slot) live
-      ∙ next_goes e s v.work slot shows.rising at shows.work (sym (going_is slot at) ∙ goes)
+      ∙ next_goes e s v.work slot shows.seating.rising at shows.left.work (sym (going_is slot at) ∙ goes)
 
   pub starts_where : (slot t : ℕ) → In slot (owned_slots s.part.executor) → is_live s t ≡ true → is_some (item_to_start s slot t) ≡ is_among v.going slot
   starts_where slot t at live =
       ap is_some (start_is slot t ∙ where_true (is_live s t) (executor_next_item e s slot) live) ∙ sym (goes_is_next slot) ∙ sym (going_is slot at)
 
   -- what starts on the slot of a user that is chosen of those that go on
-  pub chosen_starts : (t prefer user slot : ℕ) → is_live s t ≡ true → IsChosen s (is_of Going v) prefer user slot →
+  pub chosen_starts : (t prefer user slot : ℕ) → is_live s t ≡ true → IsChosen s (is_among v.going) prefer user slot →
       (item_to_start s slot t ≡ next_item v.work slot) × (item_to_start s slot t ≡ None → ⊥)
   chosen_starts t prefer user slot live chosen =
-      let at : In slot (owned_slots e) = subst (λ k. In k (owned_slots e)) chosen.slot_is (owned_in chosen.one chosen.idle) in (
+      let at : In slot (owned_slots e) = subst (λ k. In k (owned_slots e)) chosen.slot_is (owned_in v.seating s shows.seating chosen.one chosen.idle) in (
         starts_next slot t at live chosen.fits,
         λ none. true≢false (sym (starts_where slot t at live ∙ chosen.fits) ∙ ap is_some none),
       )
 
--- ---- the slot that is chosen
-
--- the first of the idle users' slots that are meant, or none
-pub some_meant : (which : Which) (v : SlotsView) (result : Option ℕ) → result ≡ slice_get (filter (is_of which v) v.idle) 0 →
-    IfSome result (λ slot. is_meant which v slot ≡ true)
-some_meant which v None e = search rules
-some_meant which v (Some slot) e = first_passes (is_of which v) v.idle slot (sym e)
-
-pub none_meant : (which : Which) (v : SlotsView) (result : Option ℕ) → result ≡ slice_get (filter (is_of which v) v.idle) 0 →
-    IfNone result ((slot : ℕ) → is_meant which v slot ≡ false)
-none_meant which v None e = none_passes (is_of which v) v.idle (sym e)
-none_meant which v (Some slot) e = search rules
-
 -- ---- the slot that is taken
 
-pub first_taken : (v : SlotsView) (t : ℕ) (result : Option ℕ) → ((s : Scenario) → Shows v s → is_live s t ≡ true) → result ≡ slice_get (filter (is_among v.going) v.vacant) 0 →
+pub first_taken : (v : SlotsView) (t : ℕ) (result : Option ℕ) → ((s : Scenario) → Shows v s → is_live s t ≡ true) → result ≡ slice_get (filter (is_among v.going) v.seating.vacant) 0 →
     IfSome result (λ slot. (s : Scenario) → Shows v s → slice_get (filter (λ k. may_take s k t) (slots_to_take s.part.executor s)) 0 ≡ Some slot)
 first_taken v t None live e = search rules
 first_taken v t (Some slot) live e = λ s shows. ap (λ (k : List ℕ). slice_get k 0) (taken_slots v s shows t (live s shows)) ∙ sym e
 
 pub nobody_takes : (v : SlotsView) (t : ℕ) (free : Bool) (result : Option ℕ) → ((s : Scenario) → Shows v s → is_live s t ≡ true) →
-    result ≡ slice_get (filter (is_among v.going) v.vacant) 0 →
+    result ≡ slice_get (filter (is_among v.going) v.seating.vacant) 0 →
     IfNone result ((s : Scenario) (n : ℕ) (users : Users) → Shows v s → is_some (first_of users.free) ≡ free → takes n s users t ≡ [])
 nobody_takes v t free None live e = λ s n users shows _. none_taken v s shows n users t (live s shows) (sym e)
 nobody_takes v t free (Some slot) live e = search rules

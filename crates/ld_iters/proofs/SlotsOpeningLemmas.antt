@@ -1,37 +1,33 @@
 -- A scenario whose users have slots at its opening, and the state that shows it.
-use Rattle.std.proofs.Common.{Contains, ◌≡◌, ◌≢◌, ◌<◌, ◌+◌, ◌*◌, ◌==◌, ◌∙◌, ℕ, Bool, true, false, cond, nat_lt, List, [], ◌∷◌, filter, arith, refl, sym, ap, subst}
+use Rattle.std.proofs.Common.{◌≡◌, ◌≢◌, ◌<◌, ◌+◌, ◌*◌, ◌==◌, ◌∙◌, ℕ, Bool, true, false, cond, nat_lt, List, [], ◌∷◌, filter, arith, refl, sym, ap, subst}
 use Rattle.std.specs.List.{range_with_len}
 use Rattle.std.specs.List.Sorted.{IsStrictlyIncreasing}
 use Rattle.std.proofs.lemmas.Bool.{le-leb}
 use Rattle.std.proofs.lemmas.Grind.{common_steps}
-use Rattle.ld_course.specs.Course.{IsOpening}
+use Rattle.ld_course.specs.Course as courses
 use Rattle.ld_course.specs.declared.course.Course.{Course}
-use Rattle.ld_course.proofs.HeldLemmas.{opening_order}
 use Rattle.ld_machine.specs.Plan.{ConstantVus, PerVuIterations, owned_slots}
 use Rattle.ld_machine.specs.Scenario.{Scenario}
 use Rattle.ld_machine.specs.SlotItems.{items_of_slots}
+use Rattle.ld_machine.specs.Slots.{has_slots}
 use Rattle.ld_machine.specs.State as machine
+use Rattle.ld_seats.specs.Seating as seats
+use Rattle.ld_seats.specs.Seating.{SeatingView}
 use Rattle.ld_machine.proofs.FirstOfAllLemmas.{In-of}
 use Rattle.ld_machine.proofs.FreeLemmas.{range_in}
-use Rattle.ld_machine.proofs.ListLemmas.{In, In-filter, nothing_in}
+use Rattle.ld_machine.proofs.ListLemmas.{In, In-filter}
 use Rattle.ld_set.proofs.NumberLemmas.{kept_rises}
 use Rattle.ld_stripe.specs.Striping.{owner_at}
 use Rattle.ld_iters.specs.ItersPart.{IsPart, executor_of_kind, owned_of}
-use Rattle.ld_iters.specs.Seats.{SeatsView}
 use Rattle.ld_iters.specs.SlotsOpening.{IsFirstWork, IsFirstWorkOf, first_going, going_of_kind}
-use Rattle.ld_iters.specs.SlotsShows.{IsRest, IsWork, Shows, SlotsView, executor_goes_on}
+use Rattle.ld_iters.specs.SlotsShows.{IsRest, IsWork, Shows, executor_goes_on}
 use Rattle.ld_iters.specs.declared.iters_part.IterKind.{IterKind}
 use Rattle.ld_iters.specs.declared.iters_part.IterKind.TheVariants.{Shared, PerUser, Constant}
 use Rattle.ld_iters.specs.declared.iters_part.ItersPart.{ItersPart}
 use Rattle.ld_iters.specs.declared.work.Work.{Work}
 use Rattle.ld_iters.specs.declared.work.Work.TheVariants.{Counted, Endless}
-use Rattle.ld_iters.proofs.NumbersLemmas.{all_pass, kept_same}
+use Rattle.ld_seats.proofs.NumbersLemmas.{all_pass, kept_same}
 use Rattle.ld_iters.proofs.WorkLemmas.{goes_is}
-
--- the state with nobody held
-abbrev opening_kept : Course → ℕ → Work → List ℕ → List ℕ → SeatsView → SlotsView
-opening_kept course slots work vacant going seats =
-    record { course = course; slots = slots; work = work; vacant = vacant; idle = []; going = going; seats = seats; held = 0 }
 
 none_passes : (p : ℕ → Bool) (numbers : List ℕ) → ((k : ℕ) → In k numbers → p k ≡ false) → [] ≡ filter p numbers
 none_passes p numbers none = none_left numbers ∙ kept_same (λ k. false) p numbers none
@@ -99,23 +95,25 @@ module _ (part : ItersPart) (s : Scenario) (share : s.share ≡ machine.opening_
   kind_slots PerUser slots = refl
   kind_slots Constant slots = refl
 
-  pub opening_shown : (course : Course) (work : Work) (seats : SeatsView) → part.kind ≢ Shared → IsOpening part.begin part.end part.grace course →
-      IsFirstWork part work → Shows (opening_kept course part.total work (owned_of part) (first_going part) seats) s
-  opening_shown course work seats slots opens first =
+  kind_has : (kind : IterKind) → kind ≢ Shared → has_slots (executor_of_kind kind part) ≡ true
+  kind_has Shared slots = absurd (slots refl)
+  kind_has PerUser slots = refl
+  kind_has Constant slots = refl
+
+  pub opening_shown : (course : Course) (work : Work) (seating : SeatingView) → part.kind ≢ Shared → courses.IsOpening part.begin part.end part.grace course →
+      IsFirstWork part work → seats.IsOpening (owned_of part) seating →
+      Shows (record { course = course; work = work; going = first_going part; seating = seating }) s
+  opening_shown course work seating slots opens first seated =
       let how = is.executor in
       let mine : owned_slots s.part.executor ≡ owned = ap owned_slots how ∙ kind_slots part.kind slots in
       record {
         course = opens s is.begin is.end is.grace share;
-        work = subst (λ e. IsWork e s work) (sym how) (first_work part.kind work slots first);
-        vacant = rw (share, mine) (all_passes (λ k. true) owned (λ k at. refl));
-        idle = λ k. rw share refl;
-        going =
-            first_goes part.kind slots
-            ∙ ap (λ e. filter (executor_goes_on e s) owned) (sym how)
-            ∙ ap (filter (executor_goes_on s.part.executor s)) (sym mine);
-        seats = λ h contains. absurd (nothing_in (In-of (subst (λ (x : machine.Share). Contains x.held h) share contains)));
-        held = rw share refl;
-        rising = subst IsStrictlyIncreasing (sym mine) owned_rises;
-        few = λ slot contains. owned_below slot (subst (λ (k : List ℕ). In slot k) mine (In-of contains));
-        order = opening_order s share;
+        left = record {
+          work = subst (λ e. IsWork e s work) (sym how) (first_work part.kind work slots first);
+          going =
+              first_goes part.kind slots
+              ∙ ap (λ e. filter (executor_goes_on e s) owned) (sym how)
+              ∙ ap (filter (executor_goes_on s.part.executor s)) (sym mine);
+        };
+        seating = seated s share (ap has_slots how ∙ kind_has part.kind slots) mine;
       }

@@ -12,7 +12,7 @@ use Rattle.ld_machine.specs.Wishes.{TellsFirst}
 use Rattle.ld_machine.proofs.FirstOfAllLemmas.{In-of}
 use Rattle.ld_machine.proofs.ListLemmas.{In, In-filter, filter-In, here, there, Contains-from_In}
 use Rattle.ld_machine.proofs.ValidPlanLemmas.{head_below}
-use Rattle.ld_iters.specs.SlotsChoice.{IsChosen}
+use Rattle.ld_seats.specs.Choice.{IsChosen}
 use Rattle.ld_iters.specs.SlotsShows.{Shows, SlotsView}
 use Rattle.ld_iters.proofs.SlotsLemmas.{slots_no_arrivals, slots_owned, slots_until}
 
@@ -41,7 +41,7 @@ module _ (v : SlotsView) (s : Scenario) (shows : Shows v s) (n : ℕ) (users : U
   pub take_wished : NoRelease n users s t prefer → (slot : ℕ) → slice_get (filter (λ k. may_take s k t) (slots_to_take s.part.executor s)) 0 ≡ Some slot →
       is_some (first_of users.free) ≡ true → TellsFirst n users s t prefer (Take slot)
   take_wished none slot first free =
-      let rises : IsStrictlyIncreasing (slots_to_take s.part.executor s) = subst IsStrictlyIncreasing (sym (slots_owned v s shows)) shows.rising in
+      let rises : IsStrictlyIncreasing (slots_to_take s.part.executor s) = subst IsStrictlyIncreasing (sym (slots_owned v s shows)) shows.seating.rising in
       let may : ℕ → Bool = λ k. may_take s k t in
       let least = first_least (filter may (slots_to_take s.part.executor s)) slot (IsStrictlyIncreasing-filter may (slots_to_take s.part.executor s) rises) first in
       let at = In-filter may slot (slots_to_take s.part.executor s) least.0 in

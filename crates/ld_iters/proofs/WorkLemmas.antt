@@ -15,6 +15,7 @@ use Rattle.ld_machine.specs.Effect.{end_item}
 use Rattle.ld_machine.specs.Told.{executor_next_item}
 use Rattle.ld_machine.proofs.ListLemmas.{In, here, there, number_itself, any-from_In, map-In, In-filter, Contains-from_In}
 use Rattle.ld_machine.proofs.WaitLemmas.{flat_map-In}
+use Rattle.ld_seats.proofs.NumbersLemmas.{put_elsewhere}
 use Rattle.ld_iters.specs.SlotsShows.{IsRest, IsWork, executor_goes_on}
 use Rattle.ld_iters.specs.Work.{IsPassed, least_left, next_item}
 use Rattle.ld_iters.specs.declared.work.Work.{Work}
@@ -27,13 +28,6 @@ pub put_here : (xs : List ℕ) (i v x : ℕ) → slice_get xs i ≡ Some x → s
 put_here [] i v x e = absurd (cc)
 put_here (y ∷ ys) zero v x e = refl
 put_here (y ∷ ys) (suc i) v x e = put_here ys i v x e
-
-pub put_elsewhere : (xs : List ℕ) (i j v : ℕ) → j ≢ i → slice_get (slice_set xs i v) j ≡ slice_get xs j
-put_elsewhere [] i j v other = refl
-put_elsewhere (y ∷ ys) zero zero v other = absurd (other refl)
-put_elsewhere (y ∷ ys) zero (suc j) v other = refl
-put_elsewhere (y ∷ ys) (suc i) zero v other = refl
-put_elsewhere (y ∷ ys) (suc i) (suc j) v other = put_elsewhere ys i j v (λ e. other (ap suc e))
 
 -- ---- the open items of a slot behind an item that ends
 

@@ -1,10 +1,8 @@
 pub mod ItersPart
 pub mod NextItems
-pub mod Seats
 pub mod Work
 pub mod SharedShows
 pub mod SlotsShows
 pub mod SlotsOpening
 pub mod SlotsChanges
-pub mod SlotsChoice
 pub mod Shows

@@ -1,33 +1,26 @@
--- How a state of users with slots changes.
-use Rattle.std.specs.Prelude.{◌≡◌, ◌+◌, ◌-◌, ℕ, Bool, if◌then◌else◌, slice_set}
-use Rattle.ld_iters.specs.SlotsShows.{SlotsView}
+-- How a state of users with slots changes where items end.
+use Rattle.std.specs.Prelude.{◌≡◌, ℕ, Bool, if◌then◌else◌}
+use Rattle.ld_base.specs.declared.act.Act.{Act}
+use Rattle.ld_iters.specs.SlotsShows.{IsLeft, Shows, SlotsView}
 use Rattle.ld_iters.specs.Work.{IsPassed}
-use Rattle.ld_set.specs.SetView.{with_number, without_number}
-
--- a user comes on the slot, and is idle
-abbrev pub seated : ℕ → ℕ → SlotsView → SlotsView
-seated user slot state =
-    record state {
-      vacant = without_number slot state.vacant;
-      idle = with_number slot state.idle;
-      seats = record { slot_of = slice_set state.seats.slot_of user slot; user_of = slice_set state.seats.user_of slot user };
-      held = state.held + 1;
-    }
-
--- the slot's user is busy, or is idle
-abbrev pub busied : ℕ → SlotsView → SlotsView
-busied slot state = record state { idle = without_number slot state.idle }
-
-abbrev pub rested : ℕ → SlotsView → SlotsView
-rested slot state = record state { idle = with_number slot state.idle }
-
--- the slot's user goes
-abbrev pub vacated : ℕ → SlotsView → SlotsView
-vacated slot state =
-    record state { vacant = with_number slot state.vacant; idle = without_number slot state.idle; held = state.held - 1 }
+use Rattle.ld_machine.specs.Scenario.{Scenario}
+use Rattle.ld_machine.specs.ShareEffect.{share_after}
+use Rattle.ld_machine.specs.Told.{MayBeTold}
+use Rattle.ld_set.specs.SetView.{without_number}
 
 -- the slot's next item is passed over; where that was its last one, the slot doesn't go on
 pub record HasPassed (slot : ℕ) (old new : SlotsView) : Type 0 where
   pub last : Bool
   pub work : IsPassed slot old.work new.work last
-  pub going : new ≡ record old { work = new.work; going = if last then without_number slot old.going else old.going }
+  pub going : new ≡ record old {
+    work = new.work;
+    going = if last then without_number slot old.going else old.going;
+  }
+
+-- whichever scenario the old state shows: where that may be told of the act, only what is left to start changes, to
+-- what the act, by any thread at any reading, leaves of it
+abbrev pub EndsItem : SlotsView → SlotsView → Act → Type 0
+EndsItem old new act =
+    (s : Scenario) (thread reading : ℕ) → Shows old s → MayBeTold s act →
+    (new ≡ record old { work = new.work; going = new.going })
+    × IsLeft new (record s { share = share_after s.part thread reading act s.share })

@@ -8,10 +8,8 @@ mod iters_state;
 mod laws;
 mod next_items;
 mod owned;
-mod seats;
 mod shared_iters;
 mod slot_iters;
-mod which;
 mod work;
 
 pub use fault::ExecFault;

@@ -1,8 +1,6 @@
-ghost use Rattle.std.specs.Prelude.{◌≡◌, ◌≢◌, ◌<◌, ◌≤◌, ℕ, Contains, IfErr, IfNone, IfOk, IfSome, None, Some, [], false, filter, is_some, slice_get, true};
+ghost use Rattle.std.specs.Prelude.{◌≡◌, ◌≢◌, ◌≤◌, ℕ, Contains, IfErr, IfNone, IfOk, IfSome, None, Some, [], false, filter, is_some, slice_get, true};
 ghost use Rattle.ld_iters.specs.ItersPart.{IsSmall};
-ghost use Rattle.ld_iters.specs.Seats.{IsSeat};
-ghost use Rattle.ld_iters.specs.SlotsChanges.{HasPassed, busied, rested, seated, vacated};
-ghost use Rattle.ld_iters.specs.SlotsChoice.{IsChosen, is_meant, is_of};
+ghost use Rattle.ld_iters.specs.SlotsChanges.{EndsItem, HasPassed};
 ghost use Rattle.ld_iters.specs.SlotsOpening.{first_going};
 ghost use Rattle.ld_iters.specs.SlotsShows.{Follows, Shows, ShowsOpening};
 ghost use Rattle.ld_iters.specs.declared.iters_part.IterKind.TheVariants as kinds;
@@ -14,47 +12,38 @@ ghost use Rattle.ld_machine.specs.Together.{least_above};
 ghost use Rattle.ld_machine.specs.Told.{level_number};
 ghost use Rattle.ld_machine.specs.Wait.{scenario_moments};
 ghost use Rattle.ld_machine.specs.Wishes.{WishesFirst};
+ghost use Rattle.ld_seats.specs.Choice.{IsChosen, is_of};
 
 use crate::fault::ExecFault;
 use crate::iters_part::{IterKind, ItersPart};
 use crate::owned::owned_set;
-use crate::seats::{LAST_USER, Seats};
-use crate::which::Which;
 use crate::work::Work;
 use ld_base::{Act, Wish};
 use ld_course::Course;
+use ld_seats::{Seating, Which};
 use ld_set::NumberSet;
 use std::alloc::{AllocError, Global};
 use std::marker::Model;
 
-/// One scenario whose users have slots of their own, as it stands: its course, what its slots have left to start, who has
-/// which slot, and how many users it holds. Users are numbered from 1 to 1,000, and slots from 0 to 999. Readings and
-/// moments are in nanoseconds from the run's start.
+/// One scenario whose users have slots of their own, as it stands: its course, what its slots have left to start,
+/// and the seating of its users. Users are numbered from 1 to 1,000, and slots from 0 to 999. Readings and moments
+/// are in nanoseconds from the run's start.
 #[derive(Drop)]
 pub struct SlotIters {
     course: Course,
-    // How many slots the whole test has.
-    slots: u32,
     work: Work,
-    // The owned slots that no user has.
-    vacant: NumberSet,
-    // The slots whose users are idle.
-    idle: NumberSet,
     // The owned slots that have something left to start.
     going: NumberSet,
-    seats: Seats,
-    held: u32,
+    seating: Seating,
 }
 
 impl Model for SlotIters {
-    ghost use Rattle.std.specs.Prelude.{◌≡◌, ◌≤◌};
     ghost use Rattle.ld_iters.specs.SlotsShows.{SlotsView};
 
     ghost Value = { SlotsView };
 
-    ghost view = { λ s. record { course = s.course; slots = s.slots; work = s.work; vacant = s.vacant.numbers; idle = s.idle.numbers; going = s.going.numbers; seats = s.seats; held = s.held } };
-
-    ghost invariant = { λ s. (s.slots ≤ 1000) × (s.vacant.limit ≡ s.slots) × (s.idle.limit ≡ s.slots) };
+    ghost view = { λ s.
+        record { course = s.course; work = s.work; going = s.going.numbers; seating = s.seating } };
 }
 
 impl SlotIters {
@@ -69,19 +58,14 @@ impl SlotIters {
     {
         let slots = part.total as u32;
         let work = Work::of_part(alloc, part)?;
-        let vacant = owned_set(alloc, &part.stripe, part.position, slots)?;
         let going = going_of(alloc, part)?;
-        let idle = NumberSet::new(alloc, slots)?;
-        let seats = Seats::new(alloc)?;
+        let owned = owned_set(alloc, &part.stripe, part.position, slots)?;
+        let seating = Seating::new(alloc, slots, owned)?;
         Ok(SlotIters {
             course: Course::opening(part.begin, part.end, part.grace),
-            slots,
             work,
-            vacant,
-            idle,
             going,
-            seats,
-            held: 0,
+            seating,
         })
     }
 
@@ -122,19 +106,9 @@ impl SlotIters {
     pub fn apply(&mut self, act: &Act, reading: u64)
         ensures follows { Follows self.old self.new act.now reading }
     {
+        self.end_item(act);
         self.course.apply(act, reading);
-        match act {
-            Act::Take { user, slot, .. } => self.seat(*user, *slot),
-            Act::Grow { user, slot, .. } => self.seat(*user, *slot),
-            Act::Start { user, .. } => self.start(*user),
-            Act::Drop { .. } => self.give_up(),
-            Act::Late { .. } => self.give_up(),
-            Act::Return { user, .. } => self.rest(*user),
-            Act::Release { user, .. } => self.let_go(*user),
-            Act::Stop { .. } => {}
-            Act::Close { .. } => {}
-            Act::Control { .. } => {}
-        }
+        self.seating.apply(act);
     }
 
     /// The least moment above the reading at which the clock may change what the scenario does; the `until`s of busy
@@ -174,24 +148,30 @@ impl SlotIters {
         self.work.least(&self.going)
     }
 
-    // Puts a user on a slot, idle.
-    fn seat(&mut self, user: u32, slot: u32)
-        ensures { user ≤ 1000 → slot < self.old.slots → self.old.held ≤ 1000 → (self.new ≡ seated user slot self.old) × IsSeat self.new.seats user slot }
+    // Passes over the item that the act ends, if it ends one.
+    fn end_item(&mut self, act: &Act)
+        ensures { EndsItem self.old self.new act.now }
     {
-        if user <= LAST_USER && slot < self.slots && self.held <= LAST_USER {
-            self.vacant.remove(slot);
-            self.idle.insert(slot);
-            self.seats.put(user, slot);
-            self.held += 1;
+        match act {
+            Act::Take { .. } => {}
+            Act::Grow { .. } => {}
+            Act::Start { user, .. } => self.start(*user),
+            Act::Drop { .. } => self.give_up(),
+            Act::Late { .. } => self.give_up(),
+            Act::Return { .. } => {}
+            Act::Release { .. } => {}
+            Act::Stop { .. } => {}
+            Act::Close { .. } => {}
+            Act::Control { .. } => {}
         }
     }
 
-    // Makes a user busy with the next item of its slot.
+    // Starts the next item of a user's slot.
     fn start(&mut self, user: u32)
-        ensures { (slot : ℕ) → slice_get self.old.seats.slot_of user ≡ Some slot → HasPassed slot (busied slot self.old) self.new }
+        ensures { (slot : ℕ) → slice_get self.old.seating.seats.slot_of user ≡ Some slot →
+            HasPassed slot self.old self.new }
     {
-        if let Some(slot) = self.seats.slot_of(user) {
-            self.idle.remove(slot);
+        if let Some(slot) = self.seating.slot_of(user) {
             self.pass(slot);
         }
     }
@@ -202,30 +182,6 @@ impl SlotIters {
     {
         if let Some(slot) = self.going.least() {
             self.pass(slot);
-        }
-    }
-
-    // Makes a user idle.
-    fn rest(&mut self, user: u32)
-        ensures { (slot : ℕ) → slice_get self.old.seats.slot_of user ≡ Some slot → slot < self.old.slots → self.new ≡ rested slot self.old }
-    {
-        if let Some(slot) = self.seats.slot_of(user) {
-            if slot < self.slots {
-                self.idle.insert(slot);
-            }
-        }
-    }
-
-    // Takes an idle user off its slot.
-    fn let_go(&mut self, user: u32)
-        ensures { (slot : ℕ) → slice_get self.old.seats.slot_of user ≡ Some slot → slot < self.old.slots → self.new ≡ vacated slot self.old }
-    {
-        if let Some(slot) = self.seats.slot_of(user) {
-            self.idle.remove(slot);
-            if slot < self.slots {
-                self.vacant.insert(slot);
-            }
-            self.held = self.held.saturating_sub(1);
         }
     }
 
@@ -244,20 +200,21 @@ impl SlotIters {
         ensures none { IfNone result ((s : Scenario) (n : ℕ) → Shows self.now s → releases n s reading ≡ []) }
     {
         let which = self.released(reading)?;
-        let (user, _) = self.chosen(which, prefer)?;
+        let (user, _) = self.seating.idle_user(which, prefer)?;
         Some(user)
     }
 
     // The slots whose users may be released when they are idle, if there are any.
-    fn released(&self, reading: u64) -> Option<Which>
-        ensures some { IfSome result (λ which. (s : Scenario) (slot : ℕ) → Shows self.now s → Contains (owned_slots s.part.executor) slot →
-            may_release s slot reading ≡ is_of which self.now slot) }
-        ensures none { IfNone result ((s : Scenario) (slot : ℕ) → Shows self.now s → may_release s slot reading ≡ false) }
+    fn released(&self, reading: u64) -> Option<Which<'_>>
+        ensures some { IfSome result (λ which. (s : Scenario) (slot : ℕ) → Shows self.now s →
+            Contains (owned_slots s.part.executor) slot → may_release s slot reading ≡ is_of which slot) }
+        ensures none { IfNone result ((s : Scenario) (slot : ℕ) → Shows self.now s →
+            may_release s slot reading ≡ false) }
     {
         if self.course.closed {
             None
         } else if self.course.runs() && !self.course.has_ended(reading) {
-            Some(Which::Done)
+            Some(Which::Others(&self.going))
         } else {
             Some(Which::Any)
         }
@@ -272,7 +229,7 @@ impl SlotIters {
             takes n s users reading ≡ []) }
     {
         if free && self.course.is_live(reading) {
-            self.vacant.least_with(&self.going)
+            self.seating.vacant().least_with(&self.going)
         } else {
             None
         }
@@ -288,7 +245,7 @@ impl SlotIters {
         if !self.course.is_live(reading) {
             return None;
         }
-        let (user, slot) = self.chosen(Which::Going, prefer)?;
+        let (user, slot) = self.seating.idle_user(Which::Among(&self.going), prefer)?;
         let item = self.work.next(slot)?;
         Some((user, item))
     }
@@ -308,7 +265,7 @@ impl SlotIters {
     fn may_close(&self, reading: u64) -> bool
         ensures { (s : Scenario) → Shows self.now s → result ≡ may_close s reading }
     {
-        if self.course.closed || self.held != 0 {
+        if self.course.closed || self.seating.held() != 0 {
             return false;
         }
         !self.course.runs() || (self.open_item().is_none() && self.may_be_over(reading))
@@ -321,61 +278,6 @@ impl SlotIters {
         match self.work {
             Work::Counted(_) => self.course.has_begun(reading),
             Work::Endless => self.course.has_ended(reading),
-        }
-    }
-
-    // The idle user that is chosen of those whose slots are meant, with its slot: the preferred one, if it is one of them,
-    // else that of the least such slot.
-    fn chosen(&self, which: Which, prefer: u32) -> Option<(u32, u32)>
-        ensures some { IfSome result (λ pair. (s : Scenario) → Shows self.now s → IsChosen s (is_of which self.now) prefer pair.0 pair.1) }
-        ensures none { IfNone result ((s : Scenario) (h : HeldUser) → Shows self.now s → Contains (idle_users s.share) h →
-            is_of which self.now h.slot ≡ false) }
-    {
-        let slot = self.chosen_slot(which, prefer)?;
-        let user = self.seats.user_of(slot)?;
-        Some((user, slot))
-    }
-
-    // The slot of that user.
-    fn chosen_slot(&self, which: Which, prefer: u32) -> Option<u32>
-        ensures some { IfSome result (λ slot. is_meant which self.now slot ≡ true) }
-        ensures none { IfNone result ((slot : ℕ) → is_meant which self.now slot ≡ false) }
-        ensures preferred { (slot : ℕ) → IsSeat self.now.seats prefer slot → is_meant which self.now slot ≡ true → result ≡ Some slot }
-    {
-        if let Some(slot) = self.preferred_slot(which, prefer) {
-            return Some(slot);
-        }
-        match which {
-            Which::Any => self.idle.least(),
-            Which::Going => self.idle.least_with(&self.going),
-            Which::Done => self.idle.least_without(&self.going),
-        }
-    }
-
-    // The preferred user's slot, if that is meant and its user is idle.
-    fn preferred_slot(&self, which: Which, prefer: u32) -> Option<u32>
-        ensures some { IfSome result (λ slot. IsSeat self.now.seats prefer slot × (is_meant which self.now slot ≡ true)) }
-        ensures none { IfNone result ((slot : ℕ) → IsSeat self.now.seats prefer slot → is_meant which self.now slot ≡ false) }
-    {
-        let slot = self.seats.slot_of(prefer)?;
-        if self.is_meant(which, slot) && self.seats.user_of(slot) == Some(prefer) {
-            Some(slot)
-        } else {
-            None
-        }
-    }
-
-    // Whether the slot is one of those that are meant, and its user is idle.
-    fn is_meant(&self, which: Which, slot: u32) -> bool
-        ensures { result ≡ is_meant which self.now slot }
-    {
-        if !self.idle.contains(slot) {
-            return false;
-        }
-        match which {
-            Which::Any => true,
-            Which::Going => self.going.contains(slot),
-            Which::Done => !self.going.contains(slot),
         }
     }
 }

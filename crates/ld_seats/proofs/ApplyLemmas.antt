@@ -1,5 +1,5 @@
 -- The seating of a scenario behind an act is that of what the act makes of the scenario.
-use Rattle.std.proofs.Common.{Contains, ◌≡◌, ◌≤◌, ◌<◌, ◌+◌, ◌-◌, ◌==◌, ◌&&◌, ◌||◌, ◌∙◌, ℕ, Bool, true, false, cond, not, List, length, Some, filter, map, slice_get, arith, refl, sym, ap, subst, inl, inr, rules}
+use Rattle.std.proofs.Common.{◌≡◌, ◌≤◌, ◌<◌, ◌+◌, ◌-◌, ◌==◌, ◌&&◌, ◌||◌, ◌∙◌, ℕ, Bool, true, false, cond, not, List, length, Some, filter, map, slice_get, arith, refl, sym, ap, subst, inl, inr, rules}
 use Rattle.std.specs.List.{list_any}
 use Rattle.std.specs.List.Sorted.{IsStrictlyIncreasing}
 use Rattle.std.proofs.lemmas.Bool.{eqb-true, ne_eqb, true≢false}
@@ -19,7 +19,7 @@ use Rattle.ld_machine.specs.ShareEffect.{share_after}
 use Rattle.ld_machine.specs.Slots.{has_slots}
 use Rattle.ld_machine.specs.State as machine
 use Rattle.ld_machine.specs.Together.{holds}
-use Rattle.ld_machine.specs.Told.{IsHeldInOrder, IsNewcomer, IsStarter, MayBeTold, executor_has_place}
+use Rattle.ld_machine.specs.Told.{IsHeldInOrder, IsNewcomer, MayBeTold, executor_has_place}
 use Rattle.ld_machine.proofs.BusyLemmas.{held_end_item, held_stop}
 use Rattle.ld_machine.proofs.FirstOfAllLemmas.{In-of}
 use Rattle.ld_machine.proofs.ListLemmas.{In, In-filter, In-map, both_true, number_itself, any-from_In, map-In, Contains-from_In}
@@ -28,7 +28,7 @@ use Rattle.ld_course.proofs.IdleLemmas.{numbers_of, count_with, count_without}
 use Rattle.ld_set.specs.SetView.{is_among, with_number, without_number}
 use Rattle.ld_seats.specs.Changes.{busied, rested, seated, vacated}
 use Rattle.ld_seats.specs.Seating.{IsSeated, IsSeating, SeatingView, is_idle_slot}
-use Rattle.ld_seats.specs.Seats.{IsSeat, SeatsView}
+use Rattle.ld_seats.specs.Seats.{IsSeat}
 use Rattle.ld_seats.proofs.HeldSlotsLemmas.{IsAlone, has_number, has_slot, idle_slot_busy, idle_slot_put, idle_slot_with, idle_slot_without, newcomer, slot_put, slot_with, slot_without, with_in}
 use Rattle.ld_seats.proofs.NumbersLemmas.{among_in, among_with, among_without, few_rising, kept_less, kept_more, put_elsewhere, same_test}
 

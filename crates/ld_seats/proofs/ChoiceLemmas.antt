@@ -1,5 +1,5 @@
 -- The idle user that is chosen by a seating is one of the scenario's.
-use Rattle.std.proofs.Common.{Contains, ◌≡◌, ◌==◌, ◌∙◌, ℕ, Bool, true, false, Option, None, Some, IfNone, IfSome, filter, slice_get, sym, ap, subst, rules}
+use Rattle.std.proofs.Common.{Contains, ◌≡◌, ◌≢◌, ◌==◌, ◌∙◌, ℕ, Bool, true, false, Option, None, Some, IfNone, IfSome, filter, slice_get, sym, ap, subst, rules}
 use Rattle.std.proofs.lemmas.Bool.{eqb-true}
 use Rattle.ld_machine.specs.Plan.{owned_slots}
 use Rattle.ld_machine.specs.Scenario.{Scenario}
@@ -7,7 +7,7 @@ use Rattle.ld_machine.specs.State.{HeldUser, idle_users, is_idle}
 use Rattle.ld_machine.proofs.FirstOfAllLemmas.{In-of}
 use Rattle.ld_machine.proofs.ListLemmas.{In, In-filter, In-from_any, any-from_In, both_true, number_itself, Contains-from_In}
 use Rattle.ld_set.specs.SetView.{is_among}
-use Rattle.ld_seats.specs.Choice.{IsChosen, is_meant, is_of}
+use Rattle.ld_seats.specs.Choice.{IsChosen, IsLeastMeant, is_meant, is_of}
 use Rattle.ld_seats.specs.Seating.{IsSeating, SeatingView}
 use Rattle.ld_seats.specs.Seats.{IsSeat}
 use Rattle.ld_seats.specs.declared.which.Which.{Which}
@@ -86,3 +86,8 @@ pub none_meant : (which : Which) (v : SeatingView) (result : Option ℕ) → res
     IfNone result ((slot : ℕ) → is_meant which v slot ≡ false)
 none_meant which v None e = none_passes (is_of which) v.idle (sym e)
 none_meant which v (Some slot) e = search rules
+
+pub least_meant : (which : Which) (v : SeatingView) (prefer : ℕ) (result : Option ℕ) → result ≡ slice_get (filter (is_of which) v.idle) 0 →
+    IfSome result (λ slot. slice_get v.seats.user_of slot ≢ Some prefer → IsLeastMeant which v slot)
+least_meant which v prefer None e = search rules
+least_meant which v prefer (Some slot) e = λ other. sym e

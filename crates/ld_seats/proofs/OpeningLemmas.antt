@@ -1,11 +1,8 @@
 -- The seating at a scenario's opening.
-use Rattle.std.proofs.Common.{Contains, ◌≡◌, ◌<◌, ℕ, true, List, [], arith, refl, sym, subst}
+use Rattle.std.proofs.Common.{Contains, ◌≡◌, ◌<◌, ℕ, List, [], arith, refl, sym, subst}
 use Rattle.std.specs.List.{range_with_len}
 use Rattle.std.specs.List.Sorted.{IsStrictlyIncreasing}
 use Rattle.ld_course.proofs.HeldLemmas.{opening_order}
-use Rattle.ld_machine.specs.Plan.{owned_slots}
-use Rattle.ld_machine.specs.Scenario.{Scenario}
-use Rattle.ld_machine.specs.Slots.{has_slots}
 use Rattle.ld_machine.specs.State as machine
 use Rattle.ld_machine.proofs.FirstOfAllLemmas.{In-of}
 use Rattle.ld_machine.proofs.FreeLemmas.{range_in}

@@ -9,7 +9,10 @@ seated user slot seating =
     record seating {
       vacant = without_number slot seating.vacant;
       idle = with_number slot seating.idle;
-      seats = record { slot_of = slice_set seating.seats.slot_of user slot; user_of = slice_set seating.seats.user_of slot user };
+      seats = record {
+        slot_of = slice_set seating.seats.slot_of user slot;
+        user_of = slice_set seating.seats.user_of slot user;
+      };
       held = seating.held + 1;
     }
 
@@ -23,4 +26,8 @@ rested slot seating = record seating { idle = with_number slot seating.idle }
 -- the slot's user goes
 abbrev pub vacated : ℕ → SeatingView → SeatingView
 vacated slot seating =
-    record seating { vacant = with_number slot seating.vacant; idle = without_number slot seating.idle; held = seating.held - 1 }
+    record seating {
+      vacant = with_number slot seating.vacant;
+      idle = without_number slot seating.idle;
+      held = seating.held - 1;
+    }

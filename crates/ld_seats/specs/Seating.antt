@@ -12,8 +12,8 @@ use Rattle.ld_machine.specs.Told.{IsHeldInOrder, MayBeTold}
 use Rattle.ld_seats.specs.Seats.{IsSeat, SeatsView}
 use Rattle.ld_set.specs.SetView.{is_among}
 
--- what is kept of a scenario's users: how many slots the whole test has of it, the owned slots that no user has and those
--- whose users are idle, each rising, who has which slot, and how many users the scenario holds
+-- what is kept of a scenario's users: how many slots the whole test has of it, the owned slots that no user has
+-- and those whose users are idle, each rising, who has which slot, and how many users the scenario holds
 pub record SeatingView : Type 0 where
   pub slots : ℕ
   pub vacant : List ℕ
@@ -32,8 +32,9 @@ pub record IsSeated (seats : SeatsView) (s : Scenario) (h : HeldUser) : Type 0 w
   pub owned : Contains (owned_slots s.part.executor) h.slot
   pub seat : IsSeat seats h.user h.slot
 
--- it is the seating of the scenario, whose executor has slots: it keeps what stands there of its users; the scenario's slots
--- rise, and are some of the test's; and the users that it holds stand in order of their numbers, each once
+-- it is the seating of the scenario, whose executor has slots: it keeps what stands there of its users; the
+-- scenario's slots rise, and are some of the test's; and the users that it holds stand in order of their numbers,
+-- each once
 pub record IsSeating (seating : SeatingView) (s : Scenario) : Type 0 where
   pub slotted : has_slots s.part.executor ≡ true
   pub vacant : seating.vacant ≡ filter (λ slot. not (is_held_slot s slot)) (owned_slots s.part.executor)
@@ -47,10 +48,11 @@ pub record IsSeating (seating : SeatingView) (s : Scenario) : Type 0 where
 -- it is the seating of each scenario that is at its opening, whose executor has slots and owns these
 abbrev pub IsOpening : List ℕ → SeatingView → Type 0
 IsOpening owned seating =
-    (s : Scenario) → s.share ≡ opening_share → has_slots s.part.executor ≡ true → owned_slots s.part.executor ≡ owned → IsSeating seating s
+    (s : Scenario) → s.share ≡ opening_share → has_slots s.part.executor ≡ true → owned_slots s.part.executor ≡ owned →
+    IsSeating seating s
 
--- whichever scenario the old seating is of: where that may be told of the act, the new one is the seating of what the act,
--- by any thread at any reading, makes of it
+-- whichever scenario the old seating is of: where that may be told of the act, the new one is the seating of what
+-- the act, by any thread at any reading, makes of it
 abbrev pub Follows : SeatingView → SeatingView → Act → Type 0
 Follows old new act =
     (s : Scenario) (thread reading : ℕ) → IsSeating old s → MayBeTold s act →

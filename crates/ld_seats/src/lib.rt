@@ -1,5 +1,5 @@
-//! The seating of a scenario's users on its slots, as the pool's machine sees it: which slots are vacant, whose users are
-//! idle, and who has which slot.
+//! The seating of a scenario's users on its slots, as the pool's machine sees it: which slots are vacant, whose
+//! users are idle, and who has which slot.
 #![tactic(auto)]
 
 mod seating;

@@ -45,7 +45,8 @@ impl Seats {
     pub fn put(&mut self, user: u32, slot: u32)
         requires user { user ≤ 1000 }
         requires slot { slot < 1000 }
-        ensures put { self.new ≡ record { slot_of = slice_set self.old.slot_of user slot; user_of = slice_set self.old.user_of slot user } }
+        ensures put { self.new ≡
+            record { slot_of = slice_set self.old.slot_of user slot; user_of = slice_set self.old.user_of slot user } }
         ensures seat { IsSeat self.new user slot }
     {
         self.slots[user as usize] = slot;

@@ -1,4 +1,4 @@
-use Rattle.std.proofs.Common.{◌≡◌, ◌<◌, ◌∙◌, ap, List, ℕ, [], sym, subst, rules}
+use Rattle.std.proofs.Common.{◌≡◌, [], rules}
 use Rattle.ld_set.specs.Words.{numbers_of}
 use Rattle.ld_seats.proofs.OpeningLemmas.{numbers_below, numbers_rise, opening_is}
 use Rattle.ld_seats.proofs.seating.Seating.new.Goals as goal
