@@ -5,3 +5,5 @@ pub mod OnLemmas
 pub mod FirstLemmas
 pub mod PlaceLemmas
 pub mod StandingLemmas
+pub mod BridgeLemmas
+pub mod ShownLemmas

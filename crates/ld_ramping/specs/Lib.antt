@@ -6,3 +6,4 @@ pub mod Active
 pub mod Examples
 pub mod Laws
 pub mod Standing
+pub mod Shows

@@ -8,14 +8,12 @@ ghost use Rattle.ld_ramping.specs.declared.slot.Slot.{Slot};
 ghost use Rattle.ld_set.specs.SetView.{is_among};
 
 use crate::interval::Interval;
+use crate::owned::SLOTS;
 use crate::slot::{Slot, Slots};
 use crate::turn_places::{current, turn_above};
 use ld_set::NumberSet;
 use std::alloc::{AllocError, Global};
 use std::marker::Model;
-
-/// The most slots that there may be. Their numbers count from 0.
-const SLOTS: u32 = 1000;
 
 /// The owned slots of a scenario, and which of them are on at one reading, so that all questions at that reading are
 /// answered at a look. At another reading each slot is looked up. Readings and moments are in nanoseconds from the run's
