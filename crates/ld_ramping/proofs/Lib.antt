@@ -3,3 +3,7 @@ pub mod TurnLemmas
 pub mod RiseLemmas
 pub mod OnLemmas
 pub mod FirstLemmas
+pub mod PlaceLemmas
+pub mod StandingLemmas
+pub mod BridgeLemmas
+pub mod ShownLemmas

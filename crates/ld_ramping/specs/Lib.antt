@@ -5,3 +5,5 @@ pub mod Owned
 pub mod Active
 pub mod Examples
 pub mod Laws
+pub mod Standing
+pub mod Shows

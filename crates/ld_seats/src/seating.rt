@@ -90,6 +90,13 @@ impl Seating {
         &self.vacant
     }
 
+    /// The slots whose users are idle, lent.
+    pub fn idle(&self) -> &NumberSet
+        ensures { result.now.numbers ≡ self.now.idle }
+    {
+        &self.idle
+    }
+
     /// How many users the scenario holds.
     pub fn held(&self) -> u32
         ensures { result ≡ self.now.held }
@@ -102,6 +109,13 @@ impl Seating {
         ensures { result ≡ slice_get self.now.seats.slot_of user }
     {
         self.seats.slot_of(user)
+    }
+
+    /// The user of a slot that isn't vacant. For another number it is None or any number.
+    pub fn user_of(&self, slot: u32) -> Option<u32>
+        ensures { result ≡ slice_get self.now.seats.user_of slot }
+    {
+        self.seats.user_of(slot)
     }
 
     /// The idle user that is chosen of those whose slots are meant, with its slot: the preferred one, if it is one of
