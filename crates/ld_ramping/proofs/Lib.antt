@@ -7,3 +7,4 @@ pub mod PlaceLemmas
 pub mod StandingLemmas
 pub mod BridgeLemmas
 pub mod ShownLemmas
+pub mod OwnedLemmas

@@ -1,15 +1,16 @@
 -- What a state of ramping users says of the scenario that it shows.
-use Rattle.std.proofs.Common.{Contains, ◌≡◌, ◌≤◌, ◌∙◌, ◌&&◌, ◌||◌, ◌==◌, ℕ, Bool, true, false, cond, not, List, [], ◌∷◌, ◌++◌, Option, None, Some, filter, find, flat_map, map, slice_get, refl, sym, ap, subst}
+use Rattle.std.proofs.Common.{Contains, ◌≡◌, ◌≤◌, ◌∙◌, ◌&&◌, ◌||◌, ◌==◌, ℕ, Bool, true, false, cond, not, List, [], ◌∷◌, ◌++◌, Option, None, Some, IfNone, IfSome, ◌<◌, min, if◌then◌else◌, filter, find, flat_map, map, slice_get, refl, sym, ap, subst, rules}
 use Rattle.std.specs.Prelude.{is_some, option_map, option_to_list}
 use Rattle.std.specs.Option.{option_map_or}
 use Rattle.std.specs.List.Sorted.{IsStrictlyIncreasing}
-use Rattle.std.proofs.lemmas.Bool.{and_from, eqb-true}
+use Rattle.std.proofs.lemmas.Bool.{and_from, eqb-true, le-ltb, lt-ltb}
 use Rattle.std.proofs.lemmas.List.Kept.{IsStrictlyIncreasing-filter}
 use Rattle.ld_base.specs.declared.wish.Wish.TheVariants.{Release, Start, Take}
 use Rattle.ld_course.specs.Course.{own_moments}
 use Rattle.ld_course.specs.declared.course.Course.{Course}
 use Rattle.ld_course.proofs.FirstLemmas.{NoRelease, NoTake, nobody_taken, release_tells, start_tells, take_tells}
 use Rattle.ld_machine.specs.Plan.{Arrival, Executor, due_moment, hard_moment, interval_hard_moment, is_external, owned_items, owned_slots}
+use Rattle.ld_machine.specs.Moment.{moment_after}
 use Rattle.ld_machine.specs.Moves.{Users, takes}
 use Rattle.ld_machine.specs.Scenario.{Scenario, executor_arrivals, executor_item_to_drop, executor_item_to_start, executor_may_close, executor_may_release, executor_may_take, executor_until, first_of, has_ended, is_held_slot, is_open_item, item_to_drop, item_to_start, least_open_arrival, least_open_item, may_release, may_take, runs, slots_to_take, until_of, where_holds, is_open}
 use Rattle.ld_machine.specs.State.{HeldUser, idle_users, is_idle}
@@ -20,12 +21,14 @@ use Rattle.ld_machine.proofs.FirstOfAllLemmas.{In-of, false_unless}
 use Rattle.ld_machine.proofs.ListLemmas.{In, In-filter, In-from_any, any-from_In, both_true, filter-In, number_itself, Contains-from_In}
 use Rattle.ld_seats.specs.Choice.{IsChosen}
 use Rattle.ld_seats.specs.Seats.{IsSeat}
+use Rattle.ld_seats.proofs.ChoiceLemmas.{chosen_as}
 use Rattle.ld_seats.proofs.NumbersLemmas.{among_in, among_kept}
 use Rattle.ld_set.specs.SetView.{is_among}
 use Rattle.ld_set.specs.Words.{as_wanted}
 use Rattle.ld_ramping.specs.Owned.{interval_of}
 use Rattle.ld_ramping.specs.Shows.{IsLeastTake, RampingView, Shows, is_idle_as, stands_as}
 use Rattle.ld_ramping.specs.Standing.{all_turns, interval_on, numbers_of, stands_on}
+use Rattle.ld_ramping.specs.declared.interval.Interval.{Interval}
 use Rattle.ld_ramping.proofs.BridgeLemmas.{interval_is, numbers_kept, on_is, turns_are}
 
 module _ (v : RampingView) (s : Scenario) (shows : Shows v s) where
@@ -270,3 +273,77 @@ pub as_it_is : (on b : Bool) → as_wanted on b ≡ true → b ≡ on
 as_it_is true b e = e
 as_it_is false true e = absurd (cc)
 as_it_is false false e = refl
+
+-- ---- the slot that is taken
+
+module _ (v : RampingView) (t : ℕ) (numbers : List ℕ) (vacant : numbers ≡ v.seating.vacant) (running : (s : Scenario) → Shows v s → runs s ≡ true) where
+  pub took_least : (result : Option ℕ) → IfSome result (λ slot. is_among numbers slot ≡ true) → IfSome result (λ slot. stands_on v.standing slot t ≡ true) →
+      IfSome result (λ slot. IsStrictlyIncreasing numbers → (k : ℕ) → Contains (numbers_of v.standing.slots) k → is_among numbers k ≡ true →
+      stands_on v.standing k t ≡ true → slot ≤ k) →
+      IfSome result (λ slot. (s : Scenario) → Shows v s → IsLeastTake s t slot)
+  took_least None among stands least = search rules
+  took_least (Some slot) among stands least = λ s shows.
+      least_take v s shows t slot (running s shows) (subst (λ (n : List ℕ). is_among n slot ≡ true) vacant among) stands
+      (λ k owned at on. least (subst IsStrictlyIncreasing (sym vacant) (vacant_rises v s shows)) k owned (subst (λ (n : List ℕ). is_among n k ≡ true) (sym vacant) at) on)
+
+  pub took_none : (free : Bool) (result : Option ℕ) →
+      IfNone result ((k : ℕ) → Contains (numbers_of v.standing.slots) k → is_among numbers k ≡ true → stands_on v.standing k t ≡ true → ⊥) →
+      IfNone result ((s : Scenario) (n : ℕ) (users : Users) → Shows v s → is_some (first_of users.free) ≡ free → takes n s users t ≡ [])
+  took_none free None none = λ s n users shows _.
+      none_taken v s shows n users t (running s shows) (λ k owned at on. none k owned (subst (λ (n : List ℕ). is_among n k ≡ true) (sym vacant) at) on)
+  took_none free (Some slot) none = search rules
+
+-- ---- the idle user on which an iteration starts
+
+module _ (v : RampingView) (t prefer : ℕ) (running : (s : Scenario) → Shows v s → runs s ≡ true) where
+  pub started_some : (result : Option (ℕ × ℕ)) →
+      IfSome result (λ pair. (s : Scenario) → Shows v s → IsChosen s (stands_as true v t) prefer pair.0 pair.1) →
+      IfSome result (λ pair. (s : Scenario) → Shows v s →
+      IsChosen s (λ k. is_some (item_to_start s k t)) prefer pair.0 pair.1 × (item_to_start s pair.1 t ≡ Some pair.1))
+  started_some None chosen = search rules
+  started_some (Some pair) chosen = λ s shows. (
+    chosen_as s (stands_as true v t) (λ k. is_some (item_to_start s k t)) prefer pair.0 pair.1 (λ h idle. started_on v s shows h.slot t (running s shows)) (chosen s shows),
+    starts_slot v s shows pair.1 t (running s shows) (chosen s shows).fits,
+  )
+
+  pub started_none : (result : Option (ℕ × ℕ)) →
+      IfNone result ((s : Scenario) (h : HeldUser) → Shows v s → Contains (idle_users s.share) h → stands_as true v t h.slot ≡ false) →
+      IfNone result ((s : Scenario) (h : HeldUser) → Shows v s → Contains (idle_users s.share) h → item_to_start s h.slot t ≡ None)
+  started_none None none = λ s h shows idle. none_started v s shows h.slot t (running s shows) (none s h shows idle)
+  started_none (Some pair) none = search rules
+
+-- ---- until when an iteration may last
+
+module _ (v : RampingView) (s : Scenario) (shows : Shows v s) (slot t : ℕ) where
+  pub until_hard : interval_on v.standing slot t ≡ None → until_of s slot t ≡ hard_moment s.part
+  until_hard none =
+      until_is v s shows slot t ∙ ap (λ o. option_map_or (interval_hard_moment s.part v.ramp_grace) (option_map interval_of o) (hard_moment s.part)) none
+
+  module _ (i : Interval) (found : interval_on v.standing slot t ≡ Some i) where
+    until_on : until_of s slot t ≡ interval_hard_moment s.part v.ramp_grace (interval_of i)
+    until_on =
+        until_is v s shows slot t ∙ ap (λ o. option_map_or (interval_hard_moment s.part v.ramp_grace) (option_map interval_of o) (hard_moment s.part)) found
+
+    begins : v.course.begin ≡ s.part.begin
+    begins = ap (λ (c : Course). c.begin) shows.course
+
+    ends : v.course.end ≡ s.part.end
+    ends = ap (λ (c : Course). c.end) shows.course
+
+    chosen_hard : Bool → ℕ
+    chosen_hard early =
+        if early then min (moment_after (moment_after s.part.begin i.off) v.ramp_grace) (hard_moment s.part) else hard_moment s.part
+
+    pub until_short : moment_after v.course.begin i.off < v.course.end →
+        min (moment_after (moment_after v.course.begin i.off) v.ramp_grace) (hard_moment s.part) ≡ until_of s slot t
+    unfolding chosen_hard
+    until_short early =
+        let early : moment_after s.part.begin i.off < s.part.end = rw (begins, ends) at early in
+        ap (λ (b : ℕ). min (moment_after (moment_after b i.off) v.ramp_grace) (hard_moment s.part)) begins
+        ∙ sym (until_on ∙ ap chosen_hard (lt-ltb (moment_after s.part.begin i.off) s.part.end early))
+
+    pub until_last : v.course.end ≤ moment_after v.course.begin i.off → hard_moment s.part ≡ until_of s slot t
+    unfolding chosen_hard
+    until_last late =
+        let late : s.part.end ≤ moment_after s.part.begin i.off = rw (begins, ends) at late in
+        sym (until_on ∙ ap chosen_hard (le-ltb (moment_after s.part.begin i.off) s.part.end late))

@@ -185,7 +185,7 @@ item_rises slots owned i x below is = subst (λ (s : Slot). AreRising s.interval
 pub item_number : (slots : List Slot) → AreOwned slots → (i : ℕ) (x : Slot) → i < length slots → x ≡ slice_index_or slots i x → x.number < 1000
 item_number slots owned i x below is = subst (λ (s : Slot). s.number < 1000) (sym is) (owned.few i x below)
 
-item_first : (slots : List Slot) (i : ℕ) (x : Slot) → i < length slots → x ≡ slice_index_or slots i x → drop i slots ≡ x ∷ drop (i + 1) slots
+pub item_first : (slots : List Slot) (i : ℕ) (x : Slot) → i < length slots → x ≡ slice_index_or slots i x → drop i slots ≡ x ∷ drop (i + 1) slots
 item_first slots i x below is = at_drop_more (λ (more : List Slot). more) slots i x below ∙ ap (λ (s : Slot). s ∷ drop (i + 1) slots) (sym is)
 
 module _ (v : StandingView) (reading : ℕ) (owned : AreOwned v.slots) (i : ℕ) (x : Slot) (below : i < length v.slots) (is : x ≡ slice_index_or v.slots i x) where

@@ -1,4 +1,5 @@
-//! Ramping users: in which intervals each of them is on.
+//! Ramping users: in which intervals each of them is on; and a scenario of them, as the pool's machine sees it: what it
+//! would do next at a reading, and what an act does to it.
 #![tactic(auto)]
 
 mod examples;
@@ -16,7 +17,7 @@ mod turn_places;
 pub use examples::{worked_counts, worked_ramps};
 pub use fault::ExecFault;
 pub use interval::{Interval, Intervals};
-pub use laws::{end_in_time, first_ones, intervals_rise, none_beyond};
+pub use laws::{end_in_time, first_ones, intervals_rise, none_beyond, shown};
 pub use ramp::intervals;
 pub use ramping_part::RampingPart;
 pub use ramping_state::RampingState;
