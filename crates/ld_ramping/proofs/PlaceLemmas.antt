@@ -1,12 +1,12 @@
 -- What the place of a reading among intervals that rise says.
-use Rattle.std.proofs.Common.{All, AllPairs, Contains, ◌≡◌, ◌∙◌, ◌<◌, ◌≤◌, ◌+◌, ◌&&◌, ℕ, zero, suc, Bool, true, false, cond, List, [], ◌∷◌, ◌++◌, length, get_or, Option, None, Some, find, flat_map, nat_le, nat_lt, slice_get, if◌then◌else◌, arith, refl, sym, ap, subst, inl, inr, ◌⊎◌}
+use Rattle.std.proofs.Common.{Contains, ◌≡◌, ◌∙◌, ◌<◌, ◌≤◌, ◌&&◌, ℕ, zero, suc, Bool, true, false, cond, List, [], ◌∷◌, length, Option, None, Some, find, nat_le, nat_lt, slice_get, if◌then◌else◌, arith, refl, sym, ap, subst, inl, inr, ◌⊎◌}
 use Rattle.std.proofs.Math.Decide.{dec_lt}
-use Rattle.std.proofs.lemmas.Bool.{le-leb, le-ltb, lt-leb, lt-ltb}
+use Rattle.std.proofs.lemmas.Bool.{le-ltb, lt-leb, lt-ltb}
 use Rattle.ld_machine.specs.Moment.{moment_after}
 use Rattle.ld_machine.specs.Together.{least_above, lesser}
 use Rattle.ld_machine.proofs.CandidateLemmas.{above_is, above_none, flat-cons}
 use Rattle.ld_machine.proofs.FirstOfAllLemmas.{In-of}
-use Rattle.ld_machine.proofs.ListLemmas.{In, here, there, nothing_in, In-flat_map, in_two, Contains-from_In}
+use Rattle.ld_machine.proofs.ListLemmas.{In, here, there, In-flat_map, in_two, Contains-from_In}
 use Rattle.ld_ramping.specs.Rising.{AreRising}
 use Rattle.ld_ramping.specs.Standing.{IsPlace, interval_turns, lies_in, slot_turns}
 use Rattle.ld_ramping.specs.declared.interval.Interval.{Interval}

@@ -1,5 +1,5 @@
 -- What a state of ramping users says of the scenario that it shows.
-use Rattle.std.proofs.Common.{Contains, ◌≡◌, ◌≤◌, ◌∙◌, ◌&&◌, ◌||◌, ◌==◌, ℕ, Bool, true, false, cond, not, List, [], ◌∷◌, ◌++◌, Option, None, Some, IfNone, IfSome, ◌<◌, min, if◌then◌else◌, filter, find, flat_map, map, slice_get, refl, sym, ap, subst, rules}
+use Rattle.std.proofs.Common.{Contains, ◌≡◌, ◌≤◌, ◌∙◌, ◌&&◌, ◌||◌, ◌==◌, ℕ, Bool, true, false, not, List, [], ◌++◌, Option, None, Some, IfNone, IfSome, ◌<◌, min, if◌then◌else◌, filter, find, slice_get, refl, sym, ap, subst, rules}
 use Rattle.std.specs.Prelude.{is_some, option_map, option_to_list}
 use Rattle.std.specs.Option.{option_map_or}
 use Rattle.std.specs.List.Sorted.{IsStrictlyIncreasing}
@@ -12,13 +12,13 @@ use Rattle.ld_course.proofs.FirstLemmas.{NoRelease, NoTake, nobody_taken, releas
 use Rattle.ld_machine.specs.Plan.{Arrival, Executor, due_moment, hard_moment, interval_hard_moment, is_external, owned_items, owned_slots}
 use Rattle.ld_machine.specs.Moment.{moment_after}
 use Rattle.ld_machine.specs.Moves.{Users, takes}
-use Rattle.ld_machine.specs.Scenario.{Scenario, executor_arrivals, executor_item_to_drop, executor_item_to_start, executor_may_close, executor_may_release, executor_may_take, executor_until, first_of, has_ended, is_held_slot, is_open_item, item_to_drop, item_to_start, least_open_arrival, least_open_item, may_release, may_take, runs, slots_to_take, until_of, where_holds, is_open}
+use Rattle.ld_machine.specs.Scenario.{Scenario, executor_arrivals, executor_item_to_drop, executor_item_to_start, executor_may_close, executor_may_release, executor_may_take, executor_until, first_of, has_ended, is_held_slot, is_open_item, item_to_drop, item_to_start, least_open_item, may_release, may_take, runs, slots_to_take, until_of, where_holds, is_open}
 use Rattle.ld_machine.specs.State.{HeldUser, idle_users, is_idle}
 use Rattle.ld_machine.specs.Told.{users_fit}
 use Rattle.ld_machine.specs.Wait.{ramping_moments}
 use Rattle.ld_machine.specs.Wishes.{TellsFirst, has_arrivals}
 use Rattle.ld_machine.proofs.FirstOfAllLemmas.{In-of, false_unless}
-use Rattle.ld_machine.proofs.ListLemmas.{In, In-filter, In-from_any, any-from_In, both_true, filter-In, number_itself, Contains-from_In}
+use Rattle.ld_machine.proofs.ListLemmas.{In, In-filter, In-from_any, any-from_In, both_true, number_itself, Contains-from_In}
 use Rattle.ld_seats.specs.Choice.{IsChosen}
 use Rattle.ld_seats.specs.Seats.{IsSeat}
 use Rattle.ld_seats.proofs.ChoiceLemmas.{chosen_as}

@@ -1,21 +1,20 @@
 -- The slots of an instance, by their numbers, one after another.
-use Rattle.std.proofs.Common.{All, Contains, ◌≡◌, ◌∙◌, ◌<◌, ◌≤◌, ◌+◌, ◌==◌, ◌&&◌, ◌||◌, ◌⊎◌, ℕ, zero, suc, Bool, true, false, cond, not, List, [], ◌∷◌, drop, flat_map, length, slice_index_or, Option, None, Some, find, filter, map, slice_get, arith, refl, sym, ap, subst, inl, inr, IfNone, IfSome, rules}
+use Rattle.std.proofs.Common.{Contains, ◌≡◌, ◌∙◌, ◌<◌, ◌≤◌, ◌+◌, ◌==◌, ◌&&◌, ◌⊎◌, ℕ, zero, suc, Bool, true, false, not, List, [], ◌∷◌, drop, flat_map, length, slice_index_or, Option, None, Some, find, filter, slice_get, arith, refl, sym, ap, subst, inl, inr, IfNone, IfSome, rules}
 use Rattle.std.specs.Prelude.{is_some}
-use Rattle.std.specs.Option.{option_map_or}
 use Rattle.std.specs.List.Sorted.{IsStrictlyIncreasing}
-use Rattle.std.proofs.lemmas.Bool.{cases_eq, eqb-true, eqb-false, ne_eqb}
+use Rattle.std.proofs.lemmas.Bool.{cases_eq, ne_eqb}
 use Rattle.std.proofs.lemmas.List.Kept.{IsStrictlyIncreasing-filter}
 use Rattle.std.proofs.lemmas.List.{at_drop_more}
 use Rattle.ld_machine.specs.Together.{least_above, lesser}
 use Rattle.ld_machine.proofs.CandidateLemmas.{flat-cons, lesser_along}
 use Rattle.ld_machine.proofs.FirstOfAllLemmas.{In-of, false_unless}
-use Rattle.ld_machine.proofs.ListLemmas.{In, here, there, nothing_in, number_itself, map-In, In-map, In-filter, filter-In, both_true, Contains-from_In}
+use Rattle.ld_machine.proofs.ListLemmas.{In, here, there, nothing_in, number_itself, map-In, filter-In, both_true, Contains-from_In}
 use Rattle.ld_machine.proofs.ValidPlanLemmas.{head_below, tail_rises}
 use Rattle.ld_seats.proofs.NumbersLemmas.{among_in, among_with, among_without, first_passes, none_passes}
 use Rattle.ld_set.specs.SetView.{is_among, with_number, without_number}
 use Rattle.ld_ramping.specs.Owned.{AreOwned}
 use Rattle.ld_ramping.specs.Rising.{AreRising}
-use Rattle.ld_ramping.specs.Standing.{StandingView, interval_on, intervals_at, lies_in, numbers_of, slot_turns, stands_on}
+use Rattle.ld_ramping.specs.Standing.{StandingView, intervals_at, lies_in, numbers_of, slot_turns, stands_on}
 use Rattle.ld_ramping.specs.declared.interval.Interval.{Interval}
 use Rattle.ld_ramping.specs.declared.slot.Slot.{Slot}
 
@@ -39,9 +38,9 @@ in_slots (x ∷ rest) k =
     elim (cases_eq x.number k) [
       | inl same ↦ inl (subst (λ n. In n (numbers_of (x ∷ rest))) same here)
       | inr other ↦ elim (in_slots rest k) [
-          | inl at ↦ inl (there at)
-          | inr none ↦ inr (λ at. none (behind at other))
-        ]
+        | inl at ↦ inl (there at)
+        | inr none ↦ inr (λ at. none (behind at other))
+      ]
     ]
   where
     behind : {n : ℕ} {ns : List ℕ} → In k (n ∷ ns) → (n ≡ k → ⊥) → In k ns
@@ -91,9 +90,9 @@ module _ (v : StandingView) (reading : ℕ) where
             let here_on : stands_on v k reading ≡ true = subst (λ n. stands_on v n reading ≡ true) same on in
             inr (among_with slot.number k numbers ∙ rw it (sym here_on))
         | inr other ↦ elim (settled k) [
-            | inl at ↦ inl (behind at other)
-            | inr kept ↦ inr (among_with slot.number k numbers ∙ rw (ne_eqb slot.number k other) kept)
-          ]
+          | inl at ↦ inl (behind at other)
+          | inr kept ↦ inr (among_with slot.number k numbers ∙ rw (ne_eqb slot.number k other) kept)
+        ]
       ]
     where
       behind : {n : ℕ} {ns : List ℕ} → In k (n ∷ ns) → (n ≡ k → ⊥) → In k ns
@@ -110,9 +109,9 @@ module _ (v : StandingView) (reading : ℕ) where
             let here_off : stands_on v k reading ≡ false = subst (λ n. stands_on v n reading ≡ false) same off in
             inr (among_without slot.number k numbers ∙ rw it (none (is_among numbers k) ∙ sym here_off))
         | inr other ↦ elim (settled k) [
-            | inl at ↦ inl (behind at other)
-            | inr kept ↦ inr (among_without slot.number k numbers ∙ rw (ne_eqb k slot.number (λ e. other (sym e))) (all (is_among numbers k) ∙ kept))
-          ]
+          | inl at ↦ inl (behind at other)
+          | inr kept ↦ inr (among_without slot.number k numbers ∙ rw (ne_eqb k slot.number (λ e. other (sym e))) (all (is_among numbers k) ∙ kept))
+        ]
       ]
     where
       none : (b : Bool) → (b && false) ≡ false

@@ -69,7 +69,11 @@ impl Standing {
     pub fn interval(&self, slot: u32, reading: u64) -> Option<Interval>
         ensures { result ≡ interval_on self.now slot reading }
     {
-        current(self.begin, intervals_of(self.slots.as_slice(), slot), reading)
+        current(
+            self.begin,
+            intervals_of(self.slots.as_slice(), slot),
+            reading,
+        )
     }
 
     /// Whether the slot is on at the reading.
@@ -108,7 +112,10 @@ impl Standing {
     {
         let mut least = None;
         for slot in self.slots.as_slice() {
-            least = lesser(least, turn_above(self.begin, slot.intervals.as_slice(), reading));
+            least = lesser(
+                least,
+                turn_above(self.begin, slot.intervals.as_slice(), reading),
+            );
         }
         least
     }

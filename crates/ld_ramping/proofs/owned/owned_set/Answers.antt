@@ -1,4 +1,4 @@
-use Rattle.std.proofs.Common.{◌≡◌, ◌<◌, length, rules}
+use Rattle.std.proofs.Common.{◌<◌, length, rules}
 use Rattle.ld_ramping.proofs.OwnedLemmas.{one_more}
 use Rattle.ld_ramping.proofs.owned.owned_set.Goals as goal
 

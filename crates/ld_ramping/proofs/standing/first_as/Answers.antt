@@ -1,10 +1,9 @@
-use Rattle.std.proofs.Common.{◌≡◌, ◌<◌, Bool, true, false, List, length, find, rules, subst, sym, ap, ◌∙◌}
+use Rattle.std.proofs.Common.{◌≡◌, ◌<◌, List, length, find, rules, subst, sym, ◌∙◌}
 use Rattle.std.specs.Prelude.{is_some}
 use Rattle.std.proofs.lemmas.List.{at_drop_all}
 use Rattle.ld_ramping.specs.Rising.{AreRising}
 use Rattle.ld_ramping.specs.Standing.{StandingView, lies_in}
 use Rattle.ld_ramping.specs.declared.slot.Slot.{Slot}
-use Rattle.ld_set.specs.SetView.{is_among}
 use Rattle.ld_ramping.proofs.StandingLemmas.{AreLeft, first_left, item_rises, item_stands, none_left, step_least, step_passed}
 use Rattle.ld_ramping.proofs.standing.first_as.Goals.{else-contains-via-then-contains+else-is_some-on, else-contains-via-else-contains}
 use Rattle.ld_ramping.proofs.standing.first_as.Goals as goal

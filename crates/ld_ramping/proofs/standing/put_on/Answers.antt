@@ -1,10 +1,10 @@
-use Rattle.std.proofs.Common.{◌≡◌, ◌<◌, true, false, List, length, find, rules, subst, sym, ap, ◌∙◌}
+use Rattle.std.proofs.Common.{◌≡◌, ◌<◌, List, length, find, rules, subst, sym}
 use Rattle.std.specs.Prelude.{is_some}
 use Rattle.std.proofs.lemmas.List.{at_drop_all}
 use Rattle.ld_ramping.specs.Rising.{AreRising}
 use Rattle.ld_ramping.specs.declared.slot.Slot.{Slot}
 use Rattle.ld_ramping.specs.Standing.{StandingView, lies_in}
-use Rattle.ld_ramping.proofs.StandingLemmas.{AreSettled, first_settled, item_number, item_rises, last_settled, step_off, step_on}
+use Rattle.ld_ramping.proofs.StandingLemmas.{AreSettled, first_settled, item_rises, last_settled, step_off, step_on}
 use Rattle.ld_ramping.proofs.standing.put_on.Goals.{then-is_some, else-is_some}
 use Rattle.ld_ramping.proofs.standing.put_on.Goals as goal
 

@@ -1,5 +1,4 @@
-use Rattle.std.proofs.Common.{◌≡◌, ◌∙◌, ◌≤◌, ◌<◌, ap, sym, ltb-true, refl, rules, None, Some, nat_le, nat_lt, slice_get}
-use Rattle.std.proofs.lemmas.Bool.{le-leb, lt-leb, le-ltb, lt-ltb, ltb-false}
+use Rattle.std.proofs.Common.{◌≡◌, ◌∙◌, ◌≤◌, ◌<◌, ap, sym, ltb-true, refl, rules, None, Some, slice_get}
 use Rattle.std.proofs.lemmas.Option.{slice_get_past, slice_get_read}
 use Rattle.ld_machine.specs.Moment.{moment_after}
 use Rattle.ld_ramping.proofs.PlaceLemmas.{next_turning, turning}

@@ -1,4 +1,4 @@
-use Rattle.std.proofs.Common.{◌≡◌, ◌∙◌, ap, subst, sym}
+use Rattle.std.proofs.Common.{◌∙◌, ap, subst, sym}
 use Rattle.ld_machine.specs.Together.{least_above}
 use Rattle.ld_ramping.specs.Shows.{RampingView, Shows}
 use Rattle.ld_ramping.proofs.ShownLemmas.{own_is}

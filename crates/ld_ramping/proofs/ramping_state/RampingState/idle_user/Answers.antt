@@ -1,4 +1,4 @@
-use Rattle.std.proofs.Common.{◌≡◌, ◌∙◌, None, Some, slice_get, rules}
+use Rattle.std.proofs.Common.{◌≡◌, None, Some, slice_get, rules}
 use Rattle.ld_ramping.proofs.ShownLemmas.{has_user, is_chosen, none_stand}
 use Rattle.ld_ramping.proofs.ramping_state.RampingState.idle_user.Goals as goal
 

@@ -1,4 +1,4 @@
-use Rattle.std.proofs.Common.{◌≡◌, ◌∙◌, ap, subst, sym, map, rules}
+use Rattle.std.proofs.Common.{◌≡◌, ◌∙◌, ap, sym, map, rules}
 use Rattle.ld_machine.specs.Plan.{RampingVus, owned_slots}
 use Rattle.ld_machine.specs.Slots.{has_slots}
 use Rattle.ld_ramping.specs.Owned.{slot_of}

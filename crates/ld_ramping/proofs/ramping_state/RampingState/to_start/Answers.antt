@@ -1,7 +1,7 @@
-use Rattle.std.proofs.Common.{◌≡◌, ◌∙◌, true, subst, sym, rules}
+use Rattle.std.proofs.Common.{◌≡◌, true, rules}
 use Rattle.ld_machine.specs.Scenario.{Scenario, runs}
 use Rattle.ld_ramping.specs.Shows.{Shows}
-use Rattle.ld_ramping.proofs.ShownLemmas.{not_running_starts, started_none, started_some}
+use Rattle.ld_ramping.proofs.ShownLemmas.{started_none, started_some}
 use Rattle.ld_ramping.proofs.ramping_state.RampingState.to_start.Goals as goal
 
 pub returns-then-runs-clause-some : goal.returns-then-runs-clause-some

@@ -1,12 +1,9 @@
-use Rattle.std.proofs.Common.{◌≡◌, ◌∙◌, ◌≤◌, ℕ, Contains, IfNone, IfSome, List, [], true, subst, sym, rules}
+use Rattle.std.proofs.Common.{◌≡◌, ◌∙◌, ℕ, IfNone, IfSome, [], true, subst, sym, rules}
 use Rattle.std.specs.Prelude.{is_some}
-use Rattle.std.specs.List.Sorted.{IsStrictlyIncreasing}
 use Rattle.ld_course.proofs.FirstLemmas.{nobody_free}
 use Rattle.ld_machine.specs.Moves.{Users, takes}
 use Rattle.ld_machine.specs.Scenario.{Scenario, first_of, runs}
-use Rattle.ld_set.specs.SetView.{is_among}
 use Rattle.ld_ramping.specs.Shows.{IsLeastTake, RampingView, Shows}
-use Rattle.ld_ramping.specs.Standing.{numbers_of, stands_on}
 use Rattle.ld_ramping.proofs.ShownLemmas.{not_running_takes, took_least, took_none}
 use Rattle.ld_ramping.proofs.ramping_state.RampingState.to_take.Goals.{else-free-via-then-free+else-runs, else-free-via-else-free}
 use Rattle.ld_ramping.proofs.ramping_state.RampingState.to_take.Goals as goal

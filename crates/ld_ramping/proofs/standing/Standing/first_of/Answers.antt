@@ -1,4 +1,4 @@
-use Rattle.std.proofs.Common.{◌≡◌, ◌∙◌, ◌<◌, true, false, not, filter, slice_get, rules, subst, sym, ap}
+use Rattle.std.proofs.Common.{◌≡◌, ◌∙◌, true, false, not, filter, slice_get, rules, sym}
 use Rattle.ld_set.specs.SetView.{is_among}
 use Rattle.ld_ramping.proofs.StandingLemmas.{none_stands, not_back, not_to, seen_on, some_among, some_least, some_stands}
 use Rattle.ld_ramping.proofs.standing.Standing.first_of.Goals as goal

@@ -1,4 +1,4 @@
-use Rattle.std.proofs.Common.{◌≡◌, ◌∙◌, ◌<◌, length, rules, subst, sym, ap}
+use Rattle.std.proofs.Common.{◌≡◌, ◌<◌, length, rules, subst, sym, ap}
 use Rattle.ld_machine.specs.Together.{least_above}
 use Rattle.ld_ramping.specs.Owned.{AreOwned}
 use Rattle.ld_ramping.specs.Rising.{AreRising}

@@ -1,7 +1,6 @@
-use Rattle.std.proofs.Common.{◌≡◌, drop, flat_map}
+use Rattle.std.proofs.Common.{◌≡◌, drop}
 use Rattle.ld_machine.specs.Together.{least_above, lesser}
-use Rattle.ld_ramping.specs.Standing.{all_turns, slot_turns}
-use Rattle.ld_ramping.specs.declared.slot.Slot.{Slot}
+use Rattle.ld_ramping.specs.Standing.{all_turns}
 use Rattle.ld_ramping.proofs.standing.Standing.next_turn.Given as goal
 
 abbrev pub invariant-loop-slot : goal.invariant-loop-slot
