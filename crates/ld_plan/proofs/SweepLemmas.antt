@@ -1,5 +1,5 @@
 -- Going along stays by their begins and by their ends finds the most users that they have at one moment.
-use Rattle.std.proofs.Common.{◌≡◌, ◌<◌, ◌≤◌, ◌+◌, ◌-◌, ◌∙◌, ℕ, Bool, true, false, List, [], ◌∷◌, cond, length, max, take, get_or, arith, ap, refl, sym, subst}
+use Rattle.std.proofs.Common.{◌≡◌, ◌<◌, ◌≤◌, ◌+◌, ◌-◌, ◌∙◌, ℕ, zero, suc, Bool, true, false, List, [], ◌∷◌, cond, length, max, take, get_or, arith, ap, refl, sym, subst}
 use Rattle.std.specs.Prelude.{◌&&◌, All, IsPermutation, nat_le, nat_lt, sum_by}
 use Rattle.std.specs.List.Sorted.{IsNonDecreasingBy}
 use Rattle.std.proofs.Math.Decide.{dec_lt}
@@ -9,7 +9,7 @@ use Rattle.std.proofs.lemmas.List.Elements.{All-get_or, All-head, All-tail}
 use Rattle.std.proofs.lemmas.List.Sorted.{sum_by-IsPermutation}
 use Rattle.std.proofs.lemmas.List.Sums.{sum_by-cons, sum_by-take-le, sum_by_more, sum_by_more_le}
 use Rattle.ld_machine.specs.Requirement.{IsGreatest}
-use Rattle.ld_plan.specs.Stay.{HoldSometime, held_at, holds}
+use Rattle.ld_plan.specs.Stay.{AreCounted, HoldSometime, held_at, holds}
 use Rattle.ld_plan.specs.declared.stay.Stay.{Stay}
 
 -- ---- sums of those that pass a test
@@ -41,7 +41,8 @@ upto p amount (s ∷ stays) (suc i) none =
 -- all before place i pass it
 all_before : (p : Stay → Bool) (amount : Stay → ℕ) (stays : List Stay) (i : ℕ) →
     ((k : ℕ) (d : Stay) → k < i → k < length stays → p (get_or stays k d) ≡ true) → sum_by amount (take i stays) ≤ sum_by (passed p amount) stays
-all_before p amount [] i pass = omega arith
+all_before p amount [] zero pass = omega arith
+all_before p amount [] (suc i) pass = omega arith
 all_before p amount (s ∷ stays) zero pass = omega arith
 all_before p amount (s ∷ stays) (suc i) pass =
     let rest = all_before p amount stays i (λ k d past inside. pass (suc k) d (omega arith) (omega arith)) in
@@ -124,7 +125,7 @@ pub record IsSwept (amount : Stay → ℕ) (begins ends : List Stay) (i j users 
 pub over_start : (begins ends : List Stay) → AreOver begins ends 0 0
 over_start begins ends = record { begun = omega arith; ended = omega arith; before = λ k d below inside. absurd (omega arith) }
 
-swept_start : (amount : Stay → ℕ) (begins ends : List Stay) → AreInOrder begins ends → IsSwept amount begins ends 0 0 0 0
+pub swept_start : (amount : Stay → ℕ) (begins ends : List Stay) → AreInOrder begins ends → IsSwept amount begins ends 0 0 0 0
 swept_start amount begins ends order =
     record {
       balance = refl;
@@ -142,17 +143,19 @@ swept_start amount begins ends order =
     }
 
 -- one more is over
-over_end : (begins ends : List Stay) (i j : ℕ) → AreOver begins ends i j → j < length ends →
-    ((d : Stay) → (get_or ends j d).until ≤ (get_or begins i d).from) → AreOver begins ends i (j + 1)
-over_end begins ends i j over inside here =
+pub over_end : (begins ends : List Stay) (i j : ℕ) (d : Stay) → AreOver begins ends i j → i < length begins → j < length ends →
+    (get_or ends j d).until ≤ (get_or begins i d).from → AreOver begins ends i (j + 1)
+over_end begins ends i j d over left inside here =
     record {
       begun = over.begun;
       ended = omega arith;
-      before = λ k d below left. elim (dec_lt k j) [
-        | yes early ↦ over.before k d early left
+      before = λ k e below inside_too. elim (dec_lt k j) [
+        | yes early ↦ over.before k e early left
         | no late ↦
-            let same : k ≡ j = omega arith in
-            rw same (here d)
+            let at : k ≡ j = omega arith in
+            let of_end : get_or ends j e ≡ get_or ends j d = get_or_default ends j e d inside in
+            let of_begin : get_or begins i e ≡ get_or begins i d = get_or_default begins i e d left in
+            rw (at, of_end, of_begin) here
       ];
     }
 
@@ -181,7 +184,7 @@ leaves amount begins ends i j users most d order over left inside swept =
     let balance = swept.balance in
     omega arith
 
-swept_end : (amount : Stay → ℕ) (begins ends : List Stay) (i j users most less : ℕ) (d : Stay) → j < length ends →
+pub swept_end : (amount : Stay → ℕ) (begins ends : List Stay) (i j users most less : ℕ) (d : Stay) → j < length ends →
     amount (get_or ends j d) ≤ users → less ≡ users - amount (get_or ends j d) → IsSwept amount begins ends i j users most →
     IsSwept amount begins ends i (j + 1) less most
 swept_end amount begins ends i j users most less d inside leave is swept =
@@ -190,7 +193,7 @@ swept_end amount begins ends i j users most less d inside leave is swept =
     record { balance = omega arith; moment = swept.moment; reached = swept.reached; at_most = swept.at_most }
 
 -- one more begins
-over_begin : (begins ends : List Stay) (i j : ℕ) → AreInOrder begins ends → i < length begins → AreOver begins ends i j →
+pub over_begin : (begins ends : List Stay) (i j : ℕ) → AreInOrder begins ends → i < length begins → AreOver begins ends i j →
     AreOver begins ends (i + 1) j
 over_begin begins ends i j order inside over =
     record {
@@ -258,7 +261,7 @@ held_within amount begins ends i j users most t d order inside over begins_at ah
     let balance = swept.balance in
     omega arith
 
-swept_begin : (amount : Stay → ℕ) (begins ends : List Stay) (i j users most now greatest : ℕ) (d : Stay) → AreInOrder begins ends →
+pub swept_begin : (amount : Stay → ℕ) (begins ends : List Stay) (i j users most now greatest : ℕ) (d : Stay) → AreInOrder begins ends →
     i < length begins → AreOver begins ends i j → (j < length ends → (get_or begins i d).from < (get_or ends j d).until) →
     now ≡ users + amount (get_or begins i d) → greatest ≡ max most now → IsSwept amount begins ends i j users most →
     IsSwept amount begins ends (i + 1) j now greatest
@@ -296,3 +299,26 @@ swept_all amount begins ends i j users most past swept =
       reached = omega arith;
       at_most = λ t. swept.at_most t (λ d left. absurd (omega arith));
     }
+
+-- ---- sorted stays
+
+-- the same stays hold the same users in any order
+held_same : (amount : Stay → ℕ) (stays sorted : List Stay) → IsPermutation stays sorted → (t : ℕ) → held_at amount sorted t ≡ held_at amount stays t
+held_same amount stays sorted same t = sum_by-IsPermutation (passed (holds t) amount) stays sorted same
+
+pub greatest_same : (amount : Stay → ℕ) (stays sorted : List Stay) (n : ℕ) → IsPermutation stays sorted →
+    IsGreatest (held_at amount sorted) n → IsGreatest (held_at amount stays) n
+greatest_same amount stays sorted n same greatest =
+    record {
+      moment = greatest.moment;
+      reached = sym (held_same amount stays sorted same greatest.moment) ∙ greatest.reached;
+      at_most = λ t. let here = held_same amount stays sorted same t in let most = greatest.at_most t in omega arith;
+    }
+
+pub counted_same : (stays sorted : List Stay) → IsPermutation stays sorted → AreCounted stays → AreCounted sorted
+counted_same stays sorted same counted =
+    let planned = sum_by-IsPermutation (λ (stay : Stay). stay.planned) stays sorted same in
+    let limit = sum_by-IsPermutation (λ (stay : Stay). stay.limit) stays sorted same in
+    let few_planned = counted.planned in
+    let few_limit = counted.limit in
+    record { planned = omega arith; limit = omega arith }

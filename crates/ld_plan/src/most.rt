@@ -8,7 +8,7 @@ ghost use Rattle.ld_plan.specs.declared.fault.PlanFault.TheVariants.{Memory};
 use crate::fault::PlanFault;
 use crate::stay::Stay;
 use crate::users::Users;
-use std::alloc::Global;
+use std::alloc::{AllocError, Global};
 
 // The most users that these stays have at one moment.
 pub fn most_of(alloc: Global, stays: &[Stay]) -> Result<Users, PlanFault>
@@ -18,27 +18,29 @@ pub fn most_of(alloc: Global, stays: &[Stay]) -> Result<Users, PlanFault>
     ensures limit { IfOk result (λ most. IsGreatest (limit_at stays.now) most.limit) }
     ensures memory { IfErr result (λ f. f ≡ Memory) }
 {
-    let mut begins = Vec::from_slice(alloc, stays)?;
-    let mut ends = Vec::from_slice(alloc, stays)?;
-    by_begin(begins.as_mut_slice());
-    by_end(ends.as_mut_slice());
-    Ok(most_along(begins.as_slice(), ends.as_slice()))
+    let begins = by_begin(alloc, stays)?;
+    let ends = by_end(alloc, stays)?;
+    Ok(most_along(&begins, &ends))
 }
 
-// Sorts stays by their begins.
-fn by_begin(stays: &mut [Stay])
-    ensures same { IsPermutation stays.old stays.new }
-    ensures sorted { IsNonDecreasingBy (λ stay. stay.from) stays.new }
+// These stays, sorted by their begins.
+fn by_begin(alloc: Global, stays: &[Stay]) -> Result<Vec<Stay>, AllocError>
+    ensures same { IfOk result (λ sorted. IsPermutation stays.now sorted.items) }
+    ensures sorted { IfOk result (λ sorted. IsNonDecreasingBy (λ stay. stay.from) sorted.items) }
 {
-    stays.sort_unstable_by_key(|stay| stay.from);
+    let mut sorted = Vec::from_slice(alloc, stays)?;
+    sorted.sort_unstable_by_key(|stay| stay.from);
+    Ok(sorted)
 }
 
-// Sorts stays by their ends.
-fn by_end(stays: &mut [Stay])
-    ensures same { IsPermutation stays.old stays.new }
-    ensures sorted { IsNonDecreasingBy (λ stay. stay.until) stays.new }
+// These stays, sorted by their ends.
+fn by_end(alloc: Global, stays: &[Stay]) -> Result<Vec<Stay>, AllocError>
+    ensures same { IfOk result (λ sorted. IsPermutation stays.now sorted.items) }
+    ensures sorted { IfOk result (λ sorted. IsNonDecreasingBy (λ stay. stay.until) sorted.items) }
 {
-    stays.sort_unstable_by_key(|stay| stay.until);
+    let mut sorted = Vec::from_slice(alloc, stays)?;
+    sorted.sort_unstable_by_key(|stay| stay.until);
+    Ok(sorted)
 }
 
 // The most users that stays have at one moment, which are given by their begins and by their ends. It goes along both: at
