@@ -1,6 +1,6 @@
 -- The stays of parts: their users at a moment are those that the parts need then.
-use Rattle.std.proofs.Common.{◌≡◌, ◌<◌, ◌≤◌, ◌+◌, ◌-◌, ◌*◌, ◌∙◌, ℕ, Bool, true, false, List, [], ◌∷◌, ◌++◌, cond, length, max, take, get_or, arith, ap, refl, sym, subst}
-use Rattle.std.specs.Prelude.{◌&&◌, All, nat_le, nat_lt, sum_by}
+use Rattle.std.proofs.Common.{◌≡◌, ◌<◌, ◌≤◌, ◌+◌, ◌-◌, ◌*◌, ◌∙◌, ℕ, zero, suc, Bool, true, false, List, [], ◌∷◌, ◌++◌, cond, length, max, take, get_or, arith, ap, refl, sym, subst}
+use Rattle.std.specs.Prelude.{◌&&◌, All, Err, IfOk, Ok, Result, nat_le, nat_lt, sum_by}
 use Rattle.std.specs.List.{AllByRecursion, AllZip}
 use Rattle.std.proofs.Math.Decide.{dec_lt}
 use Rattle.std.proofs.lemmas.Bool.Decides.{nat_tests}
@@ -10,7 +10,7 @@ use Rattle.std.proofs.lemmas.List.Sums.{sum_by-append, sum_by-cons, sum_by_push}
 use Rattle.ld_stripe.specs.Striping.{Striping}
 use Rattle.ld_stripe.proofs.StripingLaws.{share_at_most}
 use Rattle.ld_machine.specs.Plan.{Part, hard_moment}
-use Rattle.ld_machine.specs.Requirement.{executor_extra, executor_need, extra, is_before, most_owned_users, need, owned_users}
+use Rattle.ld_machine.specs.Requirement.{IsGreatest, IsRequirement, executor_extra, executor_need, extra, is_before, most_owned_users, need, owned_users}
 use Rattle.ld_options.specs.Ranges.{IsScenarioInRange}
 use Rattle.ld_options.specs.declared.options.Options.{Options}
 use Rattle.ld_options.specs.declared.scenario.Scenario.{Scenario}
@@ -18,7 +18,9 @@ use Rattle.ld_plan.specs.Executor.{max_of, pre_of}
 use Rattle.ld_plan.specs.IsPlanOf.{IsPartOf, part_of, sample_room}
 use Rattle.ld_plan.specs.PartView.{PartView, parts_of}
 use Rattle.ld_plan.specs.Stay.{AreCounted, AreStaysOf, HasFewUsers, HoldSometime, IsSteady, held_at, holds, limit_at, planned_at}
+use Rattle.ld_plan.specs.declared.fault.PlanFault.{PlanFault}
 use Rattle.ld_plan.specs.declared.stay.Stay.{Stay}
+use Rattle.ld_plan.specs.declared.users.Users.{Users}
 use Rattle.ld_plan.proofs.ExecutorLemmas.{few_users, most_users_owned, pre_within, users_owned}
 
 -- ---- one stay
@@ -179,6 +181,29 @@ stays_less views i v stays stay inside is so_far of empty =
 
 pub all_stays : (views : List PartView) (i : ℕ) (stays : List Stay) → length views ≤ i → AreSoFar (take i views) stays → AreSoFar views stays
 all_stays views i stays past so_far = subst (λ (done : List PartView). AreSoFar done stays) (take_all i views past) so_far
+
+-- ---- the requirement
+
+-- the greatest of what is the same at each moment
+pub same_greatest : (f g : ℕ → ℕ) (n : ℕ) → ((t : ℕ) → f t ≡ g t) → IsGreatest f n → IsGreatest g n
+same_greatest f g n same is =
+    record {
+      moment = is.moment;
+      reached = sym (same is.moment) ∙ is.reached;
+      at_most = λ t. let here = same t in let most = is.at_most t in omega arith;
+    }
+
+-- the most users of the stays of parts are their requirement
+pub requirement_of_stays : (parts : List Part) (stays : List Stay) (most : Result Users PlanFault) → AreStaysOf parts stays →
+    IfOk most (λ (users : Users). IsGreatest (planned_at stays) users.planned) →
+    IfOk most (λ (users : Users). IsGreatest (limit_at stays) users.limit) →
+    IfOk most (λ (users : Users). IsRequirement parts users.planned users.limit)
+requirement_of_stays parts stays (Ok users) are planned limit =
+    record {
+      planned_is = same_greatest (planned_at stays) (need parts) users.planned are.planned planned;
+      limit_is = same_greatest (limit_at stays) (λ t. need parts t + extra parts t) users.limit are.limit limit;
+    }
+requirement_of_stays parts stays (Err fault) are planned limit = tt
 
 -- ---- few users
 

@@ -111,6 +111,7 @@ impl OwnedSlots {
     fn share(&self) -> u32
         ensures planned { result ≡ owned_users self.now.executor }
         ensures limit { result ≡ most_owned_users self.now.executor }
+        ensures steady { IsSteady self.now.executor }
     {
         share_of(&self.positions, self.position, self.slots)
     }
