@@ -2,11 +2,13 @@ pub mod WholeLemmas
 pub mod OwnedLemmas
 pub mod SlotItemsLemmas
 pub mod GreatestLemmas
+pub mod SweepLemmas
 pub mod StripingLemmas
 pub mod ExecutorLemmas
 pub mod OwnedSlotsLemmas
 pub mod PartLemmas
 pub mod PartsLemmas
+pub mod StayLemmas
 pub mod TimedLemmas
 pub mod ValidLemmas
 pub mod AllPlansLemmas

@@ -4,6 +4,7 @@ use Rattle.ld_stripe.specs.Striping.{Striping, owned_indices, shares_at}
 use Rattle.ld_machine.specs.Requirement.{most_owned_users, owned_users}
 use Rattle.ld_plan.specs.OwnedItems.{IsOwnedOf, ItemsView, view_of_items}
 use Rattle.ld_plan.specs.OwnedSlots.{slot_executor, slot_item_count, slot_users}
+use Rattle.ld_plan.specs.Stay.{IsSteady}
 use Rattle.ld_plan.specs.declared.owned_slots.Work.{Work}
 use Rattle.ld_plan.specs.declared.owned_slots.Work.TheVariants.{Counted, Endless}
 use Rattle.ld_plan.proofs.StripingLemmas.{striping_of}
@@ -16,6 +17,11 @@ slots_planned Endless slots = refl
 pub slots_limit : (work : Work) (slots : List ℕ) → most_owned_users (slot_executor work slots) ≡ length slots
 slots_limit (Counted iterations) slots = refl
 slots_limit Endless slots = refl
+
+-- and it is planned all along
+pub slots_steady : (work : Work) (slots : List ℕ) → IsSteady (slot_executor work slots)
+slots_steady (Counted iterations) slots = λ part t. refl
+slots_steady Endless slots = λ part t. refl
 
 -- what is seen of it
 abbrev view_of : Work → ℕ → List ℕ → ItemsView

@@ -1,6 +1,7 @@
 pub mod PlanView
 pub mod Executor
 pub mod Need
+pub mod Stay
 pub mod Row
 pub mod PartView
 pub mod OwnedItems

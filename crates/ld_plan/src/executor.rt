@@ -1,6 +1,6 @@
 // What the executor of a scenario says of the whole test.
 ghost use Rattle.std.specs.Prelude.{◌≡◌};
-ghost use Rattle.ld_plan.specs.Executor.{length_of, max_of, pre_of};
+ghost use Rattle.ld_plan.specs.Executor.{length_of};
 
 use ld_options::Executor;
 
@@ -13,29 +13,5 @@ pub fn length_of(executor: &Executor) -> u64
         Executor::PerVuIterations { max_duration, .. } => *max_duration,
         Executor::ConstantVus { duration, .. } => *duration,
         Executor::ConstantArrivals { duration, .. } => *duration,
-    }
-}
-
-// How many users are made before the scenario begins.
-pub fn users_before(executor: &Executor) -> u32
-    ensures { result ≡ pre_of executor.now }
-{
-    match executor {
-        Executor::SharedIterations { vus, .. } => *vus,
-        Executor::PerVuIterations { vus, .. } => *vus,
-        Executor::ConstantVus { vus, .. } => *vus,
-        Executor::ConstantArrivals { pre, .. } => *pre,
-    }
-}
-
-// How many users there may be at most.
-pub fn most_users(executor: &Executor) -> u32
-    ensures { result ≡ max_of executor.now }
-{
-    match executor {
-        Executor::SharedIterations { vus, .. } => *vus,
-        Executor::PerVuIterations { vus, .. } => *vus,
-        Executor::ConstantVus { vus, .. } => *vus,
-        Executor::ConstantArrivals { max, .. } => *max,
     }
 }

@@ -4,6 +4,7 @@
 mod executor;
 mod fault;
 mod laws;
+mod most;
 mod need;
 mod owned;
 mod owned_arrivals;
@@ -14,6 +15,8 @@ mod owned_slots;
 mod part;
 mod plan;
 mod row;
+mod stay;
+mod stays;
 mod striping;
 mod users;
 

@@ -56,7 +56,7 @@ pub fn owned_of(
             limit: entries,
         });
     }
-    let users = users_of(options.scenarios.as_slice(), &positions, position);
+    let users = users_of(alloc, &parts)?;
     Ok(Owned {
         position,
         parts,
@@ -90,11 +90,13 @@ fn owned_parts(
 
 // Refuses a test that may have too many users at one moment, of whose scenarios the whole is looked at.
 fn few_users(alloc: Global, options: &Options) -> Result<(), PlanFault>
+    requires arrivals { AreFew options.now.scenarios }
     ensures few { OnOk result (HasFewUsers options.now) }
     ensures refused { IfErr result (λ f. f ≢ Memory → IsManyUsers options.now f) }
 {
     let whole = of_whole(alloc)?;
-    let users = users_of(options.scenarios.as_slice(), &whole, 0);
+    let parts = owned_parts(alloc, options, &whole, 0)?;
+    let users = users_of(alloc, &parts)?;
     if users.limit > MOST_USERS {
         return Err(PlanFault::TooManyUsers(users.limit));
     }

@@ -57,6 +57,7 @@ impl OwnedArrivals {
     ghost use Rattle.ld_options.specs.Ranges.{IsInRange};
     ghost use Rattle.ld_plan.specs.OwnedItems.{AreDueAt, IsOwnedOf, constant_arrivals, timetable_at, view_of_arrivals};
     ghost use Rattle.ld_plan.specs.OwnedPart.{IsSmallPart, executor_of};
+    ghost use Rattle.ld_plan.specs.Stay.{IsSteady};
     ghost use Rattle.ld_plan.specs.PlanFault.{IsManyOf};
     ghost use Rattle.ld_plan.specs.PlanView.{arrival_of};
     ghost use Rattle.ld_plan.specs.declared.fault.PlanFault.TheVariants.{Memory};
@@ -127,6 +128,7 @@ impl OwnedArrivals {
     pub fn users(&self) -> Users
         ensures planned { result.planned ≡ owned_users self.now.executor }
         ensures limit { result.limit ≡ most_owned_users self.now.executor }
+        ensures steady { IsSteady self.now.executor }
     {
         Users {
             planned: self.pre,

@@ -30,6 +30,7 @@ impl OwnedItems {
     ghost use Rattle.ld_plan.specs.OwnedItems.{AreDueAt, IsOwnedOf};
     ghost use Rattle.ld_plan.specs.OwnedPart.{IsSmallPart, executor_of};
     ghost use Rattle.ld_plan.specs.Part.{owned_view};
+    ghost use Rattle.ld_plan.specs.Stay.{IsSteady};
     ghost use Rattle.ld_plan.specs.PlanFault.{IsManyOf};
     ghost use Rattle.ld_plan.specs.PlanView.{arrival_count};
     ghost use Rattle.ld_plan.specs.declared.fault.PlanFault.TheVariants.{Memory};
@@ -157,6 +158,7 @@ impl OwnedItems {
     pub fn users(&self) -> Users
         ensures planned { result.planned ≡ owned_users (owned_view self.now).executor }
         ensures limit { result.limit ≡ most_owned_users (owned_view self.now).executor }
+        ensures steady { IsSteady (owned_view self.now).executor }
     {
         match self {
             OwnedItems::Iterations(iterations) => iterations.users(),

@@ -37,6 +37,7 @@ impl OwnedIterations {
     ghost use Rattle.ld_options.specs.declared.executor.Executor.TheVariants.{SharedIterations};
     ghost use Rattle.ld_plan.specs.OwnedItems.{IsOwnedOf, view_of_items};
     ghost use Rattle.ld_plan.specs.OwnedPart.{IsSmallPart, executor_of};
+    ghost use Rattle.ld_plan.specs.Stay.{IsSteady};
     ghost use Rattle.ld_plan.specs.declared.fault.PlanFault.TheVariants.{Memory};
 
     // What a position owns of a scenario with so many users, which share so many iterations. The positions have this
@@ -93,6 +94,7 @@ impl OwnedIterations {
     pub fn users(&self) -> Users
         ensures planned { result.planned ≡ owned_users self.now.executor }
         ensures limit { result.limit ≡ most_owned_users self.now.executor }
+        ensures steady { IsSteady self.now.executor }
     {
         Users {
             planned: self.users,

@@ -45,6 +45,7 @@ impl OwnedSlots {
     ghost use Rattle.ld_options.specs.Ranges.{most_items, most_users};
     ghost use Rattle.ld_plan.specs.OwnedItems.{IsOwnedOf, view_of_items};
     ghost use Rattle.ld_plan.specs.OwnedPart.{IsSmallPart, executor_of};
+    ghost use Rattle.ld_plan.specs.Stay.{IsSteady};
     ghost use Rattle.ld_plan.specs.OwnedSlots.{slot_item_count, slot_users};
     ghost use Rattle.ld_plan.specs.declared.fault.PlanFault.TheVariants.{Memory};
 
@@ -110,6 +111,7 @@ impl OwnedSlots {
     fn share(&self) -> u32
         ensures planned { result ≡ owned_users self.now.executor }
         ensures limit { result ≡ most_owned_users self.now.executor }
+        ensures steady { IsSteady self.now.executor }
     {
         share_of(&self.positions, self.position, self.slots)
     }
@@ -118,6 +120,7 @@ impl OwnedSlots {
     pub fn users(&self) -> Users
         ensures planned { result.planned ≡ owned_users self.now.executor }
         ensures limit { result.limit ≡ most_owned_users self.now.executor }
+        ensures steady { IsSteady self.now.executor }
     {
         let users = self.share();
         Users {

@@ -5,6 +5,7 @@ use crate::fault::PlanFault;
 use crate::owned_items::OwnedItems;
 use crate::owned_part::OwnedPart;
 use crate::row::Row;
+use crate::stay::Stay;
 use ld_base::Text;
 use ld_options::Scenario;
 use ld_stripe::Stripe;
@@ -34,7 +35,7 @@ impl Model for Part {
 }
 
 impl Part {
-    ghost use Rattle.std.specs.Prelude.{◌≡◌, ◌≢◌, ◌<◌, ◌≤◌, ◌↔◌, IsTrue, IfOk, IfErr, IsSomeAnd, Contains, length};
+    ghost use Rattle.std.specs.Prelude.{◌≡◌, ◌≢◌, ◌<◌, ◌≤◌, ◌↔◌, ◌+◌, ◌∷◌, [], ℕ, IsTrue, IfOk, IfErr, IsSomeAnd, Contains, length, max};
     ghost use Rattle.ld_arrival.specs.Limits.{most_arrivals};
     ghost use Rattle.ld_arrival.specs.Timetable.{moment_of};
     ghost use Rattle.ld_machine.specs.Moment.{moment_after};
@@ -48,6 +49,8 @@ impl Part {
     ghost use Rattle.ld_plan.specs.PlanFault.{IsManyOf};
     ghost use Rattle.ld_plan.specs.PlanView.{arrival_count};
     ghost use Rattle.ld_plan.specs.Row.{row_of};
+    ghost use Rattle.ld_plan.specs.Stay.{limit_at, planned_at};
+    ghost use Rattle.ld_machine.specs.Requirement.{executor_extra, executor_need, most_owned_users, owned_users};
     ghost use Rattle.ld_plan.specs.declared.fault.PlanFault.TheVariants.{Memory};
 
     // What a position owns of the scenario of this number, whose iterations give at most `room`
@@ -155,6 +158,25 @@ impl Part {
             users: users.planned,
             max: users.limit,
             items: self.owned(),
+        }
+    }
+
+    // The stay of its users, from its begin up to its hard moment.
+    pub fn stay(&self) -> Stay
+        ensures planned { (t : ℕ) →
+            planned_at (result ∷ []) t ≡ executor_need self.now.part.executor self.now.part t }
+        ensures limit { (t : ℕ) →
+            limit_at (result ∷ []) t
+            ≡ executor_need self.now.part.executor self.now.part t + executor_extra self.now.part.executor self.now.part t }
+        ensures users { result.planned ≡ owned_users self.now.part.executor }
+        ensures most { result.limit ≡ max (owned_users self.now.part.executor) (most_owned_users self.now.part.executor) }
+    {
+        let users = self.owned.users();
+        Stay {
+            from: self.begin,
+            until: self.end.saturating_add(self.grace),
+            planned: users.planned,
+            limit: users.planned.max(users.limit),
         }
     }
 

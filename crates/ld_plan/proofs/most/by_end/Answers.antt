@@ -1,0 +1,8 @@
+use Rattle.std.proofs.Common.{rules}
+use Rattle.std.proofs.lemmas.List.Sorted.{IsNonDecreasingBy-from_sort_by_key}
+use Rattle.ld_plan.specs.declared.stay.Stay.{Stay}
+use Rattle.ld_plan.proofs.most.by_end.Goals as goal
+
+pub returns-clause-sorted : goal.returns-clause-sorted
+returns-clause-sorted c =
+    IsNonDecreasingBy-from_sort_by_key (λ (stay : Stay). stay.until) _ c.sort_unstable_by_key.ensures.sorted (λ a r q k. search rules)
