@@ -1,6 +1,7 @@
 ghost use Rattle.std.specs.Prelude.{◌≡◌, IfOk};
 
 use crate::kind::Kind;
+use ld_base::Stages;
 use std::alloc::{AllocError, Global};
 
 /// How the iterations of a scenario are planned, as k6's executors
@@ -46,6 +47,33 @@ pub enum Executor {
         /// How many users there may be, `maxVUs`: from 1 to 1,000, and not below `pre`.
         max: u32,
     },
+    /// `ramping-vus`: users are turned on and off in stages, and each that is on begins one iteration
+    /// after another.
+    RampingVus {
+        /// How many users are on at the begin, `startVUs`: at most 1,000.
+        start: u32,
+        /// The stages, `stages`: from 1 to 100, with targets of at most 1,000 users, and together no
+        /// longer than 30 days.
+        stages: Stages,
+        /// How long an iteration may last behind the moment at which its user is turned off,
+        /// `gracefulRampDown`, in nanoseconds: at most 30 days.
+        ramp_grace: u64,
+    },
+    /// `ramping-arrival-rate`: iterations begin at a rate that changes in stages, whether earlier ones
+    /// have ended or not.
+    RampingArrivals {
+        /// How many iterations begin in each unit of time at the begin, `startRate`: at most 1,000,000.
+        start_rate: u64,
+        /// The unit of time, `timeUnit`, in nanoseconds: above 0, and at most 1 day.
+        unit: u64,
+        /// The stages, `stages`: from 1 to 100, with targets of at most 1,000,000 in each unit of time,
+        /// and together no longer than 30 days.
+        stages: Stages,
+        /// How many users are made before the scenario begins, `preAllocatedVUs`: at most 1,000.
+        pre: u32,
+        /// How many users there may be, `maxVUs`: from 1 to 1,000, and not below `pre`.
+        max: u32,
+    },
 }
 
 impl Executor {
@@ -67,11 +95,13 @@ impl Executor {
             Executor::PerVuIterations { .. } => Kind::PerVuIterations,
             Executor::ConstantVus { .. } => Kind::ConstantVus,
             Executor::ConstantArrivals { .. } => Kind::ConstantArrivals,
+            Executor::RampingVus { .. } => Kind::RampingVus,
+            Executor::RampingArrivals { .. } => Kind::RampingArrivals,
         }
     }
 
     // An equal executor.
-    pub(crate) fn copy(&self, _alloc: Global) -> Result<Executor, AllocError>
+    pub(crate) fn copy(&self, alloc: Global) -> Result<Executor, AllocError>
         ensures { IfOk result (λ executor. executor ≡ self.now) }
     {
         match self {
@@ -110,6 +140,35 @@ impl Executor {
                 pre: *pre,
                 max: *max,
             }),
+            Executor::RampingVus {
+                start,
+                stages,
+                ramp_grace,
+            } => Ok(Executor::RampingVus {
+                start: *start,
+                stages: copy_of(alloc, stages)?,
+                ramp_grace: *ramp_grace,
+            }),
+            Executor::RampingArrivals {
+                start_rate,
+                unit,
+                stages,
+                pre,
+                max,
+            } => Ok(Executor::RampingArrivals {
+                start_rate: *start_rate,
+                unit: *unit,
+                stages: copy_of(alloc, stages)?,
+                pre: *pre,
+                max: *max,
+            }),
         }
     }
+}
+
+// Equal stages.
+fn copy_of(alloc: Global, stages: &Stages) -> Result<Stages, AllocError>
+    ensures { IfOk result (λ copy. copy ≡ stages.now) }
+{
+    Ok(Stages::of(Vec::from_slice(alloc, stages.as_slice())?))
 }

@@ -15,6 +15,8 @@ pub(crate) enum Kind {
     PerVuIterations,
     ConstantVus,
     ConstantArrivals,
+    RampingVus,
+    RampingArrivals,
 }
 
 impl Kind {
@@ -55,6 +57,8 @@ impl Kind {
             Kind::PerVuIterations => "per-vu-iterations",
             Kind::ConstantVus => "constant-vus",
             Kind::ConstantArrivals => "constant-arrival-rate",
+            Kind::RampingVus => "ramping-vus",
+            Kind::RampingArrivals => "ramping-arrival-rate",
         }
     }
 
@@ -69,6 +73,12 @@ impl Kind {
             Kind::ConstantVus => "executor startTime gracefulStop exec vus duration",
             Kind::ConstantArrivals => {
                 "executor startTime gracefulStop exec rate timeUnit duration preAllocatedVUs maxVUs"
+            }
+            Kind::RampingVus => {
+                "executor startTime gracefulStop exec startVUs stages gracefulRampDown"
+            }
+            Kind::RampingArrivals => {
+                "executor startTime gracefulStop exec startRate timeUnit preAllocatedVUs maxVUs stages"
             }
         }
     }
