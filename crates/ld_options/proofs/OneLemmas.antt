@@ -201,8 +201,8 @@ executor_single kinds.SharedIterations node = shared_single node
 executor_single kinds.PerVuIterations node = per_user_single node
 executor_single kinds.ConstantVus node = constant_single node
 executor_single kinds.ConstantArrivals node = arrivals_single node
-executor_single kinds.RampingVus node f g left right = absurd left
-executor_single kinds.RampingArrivals node f g left right = absurd left
+executor_single kinds.RampingVus node = λ f g left right. absurd left
+executor_single kinds.RampingArrivals node = λ f g left right. absurd left
 
 fields_single : (names : List (List ℕ)) (kind : Kind) (node : NodeView) → IsSingle (RefusesFields names kind node)
 fields_single names kind node =
