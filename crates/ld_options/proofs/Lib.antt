@@ -1,4 +1,5 @@
 pub mod RefusalLemmas
 pub mod ScenarioLemmas
+pub mod StageLemmas
 pub mod OneLemmas
 pub mod SizeLemmas

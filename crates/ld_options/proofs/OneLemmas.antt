@@ -6,7 +6,9 @@ use Rattle.std.specs.Prelude.{◌⊎◌, Option, Result, Ok, Err, Some, codes}
 use Rattle.std.specs.List.{AllZip}
 use Rattle.ld_json.specs.Document.{IsDocument}
 use Rattle.ld_json.specs.Node.{NodeView}
+use Rattle.ld_base.specs.declared.stage.Stage.{Stage}
 use Rattle.ld_json.specs.Pointer.{member_path}
+use Rattle.ld_json.specs.Rules.{FirstOf, Then}
 use Rattle.serde_json.specs.Data.{Data}
 use Rattle.ld_options.specs.Document.{AreOptions, AreOptionsOf, IsRefusal, OfScripts, RefusesDocument, root_of, script_names, scripts_in, scenarios_in}
 use Rattle.ld_options.specs.ConstantArrivals.{AreArrivals, RefusesArrivals}
@@ -14,8 +16,11 @@ use Rattle.ld_options.specs.ConstantUsers.{AreConstant, RefusesConstant}
 use Rattle.ld_options.specs.Executors.{IsExecutor, RefusesExecutor, executor_kind}
 use Rattle.ld_options.specs.Faults.{Refused, of_script}
 use Rattle.ld_options.specs.Iterations.{ArePerUser, AreShared, RefusesEach, RefusesPerUser, RefusesShared, count_of_each}
+use Rattle.ld_options.specs.RampingArrivals.{AreRampingArrivals, RefusesRampingArrivals}
+use Rattle.ld_options.specs.RampingUsers.{AreRampingUsers, RefusesRampingUsers}
 use Rattle.ld_options.specs.Ranges.{most_scenarios}
 use Rattle.ld_options.specs.Scenarios.{IsLost, IsScenarioOf, IsScript, RefusesFields, RefusesKnown, RefusesScenario, RefusesScript}
+use Rattle.ld_options.specs.Stages.{AreTooLong, RefusesElements, RefusesStage, RefusesStages, stages_path}
 use Rattle.ld_options.specs.Times.{RefusesTime}
 use Rattle.ld_options.specs.Users.{RefusesGreatest, greatest}
 use Rattle.ld_options.specs.declared.executor.Executor.{Executor}
@@ -29,6 +34,7 @@ use Rattle.ld_script.specs.declared.range.Range.{Range}
 use Rattle.ld_options.specs.declared.scenario.Scenario.{Scenario}
 use Rattle.ld_options.proofs.RefusalLemmas.{ok_isnt_err, ok_same}
 use Rattle.ld_options.proofs.ScenarioLemmas.{one_document}
+use Rattle.ld_options.proofs.StageLemmas.{one_ramp}
 use Rattle.ld_script.specs.Refusal.{Member, members_of}
 use Rattle.ld_script.specs.ScriptsView.{AreOrdered}
 use Rattle.ld_script.proofs.NumberLemmas.{ordered_number}
@@ -53,16 +59,17 @@ IsOfKind kinds.SharedIterations node x = (v i m : ℕ) × (x ≡ executors.Share
 IsOfKind kinds.PerVuIterations node x = (v i m : ℕ) × (x ≡ executors.PerVuIterations v i m) × ArePerUser node v i m
 IsOfKind kinds.ConstantVus node x = (v d : ℕ) × (x ≡ executors.ConstantVus v d) × AreConstant node v d
 IsOfKind kinds.ConstantArrivals node x = (r u d p m : ℕ) × (x ≡ executors.ConstantArrivals r u d p m) × AreArrivals node r u d p m
-IsOfKind kinds.RampingVus node x = ⊥
-IsOfKind kinds.RampingArrivals node x = ⊥
+IsOfKind kinds.RampingVus node x = (s : ℕ) × (t : List Stage) × (g : ℕ) × (x ≡ executors.RampingVus s t g) × AreRampingUsers node s t g
+IsOfKind kinds.RampingArrivals node x =
+    (s u : ℕ) × (t : List Stage) × (p m : ℕ) × (x ≡ executors.RampingArrivals s u t p m) × AreRampingArrivals node s u t p m
 
 of_kind : (node : NodeView) (x : Executor) → IsExecutor node x → IsOfKind (executor_kind x) node x
 of_kind node (executors.SharedIterations v i m) are = (v, i, m, refl, are)
 of_kind node (executors.PerVuIterations v i m) are = (v, i, m, refl, are)
 of_kind node (executors.ConstantVus v d) are = (v, d, refl, are)
 of_kind node (executors.ConstantArrivals r u d p m) are = (r, u, d, p, m, refl, are)
-of_kind node (executors.RampingVus s t g) are = absurd are
-of_kind node (executors.RampingArrivals s u t p m) are = absurd are
+of_kind node (executors.RampingVus s t g) are = (s, t, g, refl, are)
+of_kind node (executors.RampingArrivals s u t p m) are = (s, u, t, p, m, refl, are)
 
 one_shared : (node : NodeView) (v i m w j n : ℕ) → AreShared node v i m → AreShared node w j n → executors.SharedIterations v i m ≡ executors.SharedIterations w j n
 one_shared node v i m w j n left right =
@@ -94,14 +101,33 @@ one_arrivals node a b c d e f g h i j left right =
     let max = one_answer _ e j (subst (λ p. greatest p node ≡ Ok e) pre left.max_is) right.max_is in
     rw (rate, unit, duration, pre, max) refl
 
+one_ramping_users : (node : NodeView) (s t : ℕ) (ss ts : List Stage) (g h : ℕ) → AreRampingUsers node s ss g → AreRampingUsers node t ts h →
+    executors.RampingVus s ss g ≡ executors.RampingVus t ts h
+one_ramping_users node s t ss ts g h left right =
+    let start = one_answer _ s t left.start_is right.start_is in
+    let stages = one_ramp _ node ss ts left.stages_are right.stages_are in
+    let ramp_grace = one_time _ _ node _ g h left.ramp_grace_is right.ramp_grace_is in
+    rw (start, stages, ramp_grace) refl
+
+one_ramping_arrivals : (node : NodeView) (a b d e f g i j : ℕ) (ss ts : List Stage) → AreRampingArrivals node a b ss d e →
+    AreRampingArrivals node f g ts i j → executors.RampingArrivals a b ss d e ≡ executors.RampingArrivals f g ts i j
+one_ramping_arrivals node a b d e f g i j ss ts left right =
+    let start = one_answer _ a f left.start_is right.start_is in
+    let unit = one_time _ _ node _ b g left.unit_is right.unit_is in
+    let pre = one_answer _ d i left.pre_is right.pre_is in
+    let max = one_answer _ e j (subst (λ p. greatest p node ≡ Ok e) pre left.max_is) right.max_is in
+    let stages = one_ramp _ node ss ts left.stages_are right.stages_are in
+    rw (start, unit, pre, max, stages) refl
+
 one_of_kind : (kind : Kind) (node : NodeView) (x y : Executor) → IsOfKind kind node x → IsOfKind kind node y → x ≡ y
 one_of_kind kinds.SharedIterations node x y (v, i, m, x_is, left) (w, j, n, y_is, right) = x_is ∙ one_shared node v i m w j n left right ∙ sym y_is
 one_of_kind kinds.PerVuIterations node x y (v, i, m, x_is, left) (w, j, n, y_is, right) = x_is ∙ one_per_user node v i m w j n left right ∙ sym y_is
 one_of_kind kinds.ConstantVus node x y (v, d, x_is, left) (w, e, y_is, right) = x_is ∙ one_constant node v d w e left right ∙ sym y_is
 one_of_kind kinds.ConstantArrivals node x y (a, b, c, d, e, x_is, left) (f, g, h, i, j, y_is, right) =
     x_is ∙ one_arrivals node a b c d e f g h i j left right ∙ sym y_is
-one_of_kind kinds.RampingVus node x y left right = absurd left
-one_of_kind kinds.RampingArrivals node x y left right = absurd left
+one_of_kind kinds.RampingVus node x y (a, b, c, x_is, left) (d, e, f, y_is, right) = x_is ∙ one_ramping_users node a d b e c f left right ∙ sym y_is
+one_of_kind kinds.RampingArrivals node x y (a, b, c, d, e, x_is, left) (f, g, h, i, j, y_is, right) =
+    x_is ∙ one_ramping_arrivals node a b d e f g i j c h left right ∙ sym y_is
 
 one_executor : (node : NodeView) (x y : Executor) → executor_kind x ≡ executor_kind y → IsExecutor node x → IsExecutor node y → x ≡ y
 one_executor node x y same left right =
@@ -196,13 +222,39 @@ per_user_single node = then_single _ _ (refused_single _) (then_single _ _ (each
 constant_single : (node : NodeView) → IsSingle (RefusesConstant node)
 constant_single node = then_single _ _ (refused_single _) (time_single _ _ node _)
 
+stage_single : (most : ℕ) (node : NodeView) → IsSingle (RefusesStage most node)
+stage_single most node = then_single _ _ (refused_single _) (then_single _ _ (time_single _ _ node _) (refused_single _))
+
+too_long_single : (most : ℕ) (path : List ℕ) (nodes : List NodeView) → IsSingle (AreTooLong most path nodes)
+too_long_single most path nodes f g left right = left.says ∙ sym right.says
+
+elements_single : (most : ℕ) (node : NodeView) → IsSingle (RefusesElements most node)
+elements_single most node f g left right =
+    let same = one_answer _ left.nodes right.nodes left.nodes_are right.nodes_are in
+    then_single _ _ (first_single _ (stage_single most) right.nodes) (too_long_single most (stages_path node) right.nodes) f g
+    (subst (λ ns. Then (FirstOf (RefusesStage most) ns) (AreTooLong most (stages_path node) ns) f) same left.refused) right.refused
+
+stages_single : (most : ℕ) (node : NodeView) → IsSingle (RefusesStages most node)
+stages_single most node = then_single _ _ (refused_single _) (elements_single most node)
+
+ramping_users_single : (node : NodeView) → IsSingle (RefusesRampingUsers node)
+ramping_users_single node = then_single _ _ (refused_single _) (then_single _ _ (stages_single _ node) (time_single _ _ node _))
+
+ramping_arrivals_single : (node : NodeView) → IsSingle (RefusesRampingArrivals node)
+ramping_arrivals_single node =
+    then_single _ _ (refused_single _)
+    (then_single _ _ (time_single _ _ node _)
+    (then_single _ _ (refused_single _)
+    (then_single _ _ (greatest_single node)
+    (stages_single _ node))))
+
 executor_single : (kind : Kind) (node : NodeView) → IsSingle (RefusesExecutor kind node)
 executor_single kinds.SharedIterations node = shared_single node
 executor_single kinds.PerVuIterations node = per_user_single node
 executor_single kinds.ConstantVus node = constant_single node
 executor_single kinds.ConstantArrivals node = arrivals_single node
-executor_single kinds.RampingVus node = λ f g left right. absurd left
-executor_single kinds.RampingArrivals node = λ f g left right. absurd left
+executor_single kinds.RampingVus node = ramping_users_single node
+executor_single kinds.RampingArrivals node = ramping_arrivals_single node
 
 fields_single : (names : List (List ℕ)) (kind : Kind) (node : NodeView) → IsSingle (RefusesFields names kind node)
 fields_single names kind node =

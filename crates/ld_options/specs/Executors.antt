@@ -7,6 +7,8 @@ use Rattle.ld_options.specs.ConstantUsers.{AreConstant, RefusesConstant}
 use Rattle.ld_options.specs.Faults.{and_then}
 use Rattle.ld_options.specs.Fields.{given}
 use Rattle.ld_options.specs.Iterations.{ArePerUser, AreShared, RefusesPerUser, RefusesShared}
+use Rattle.ld_options.specs.RampingArrivals.{AreRampingArrivals, RefusesRampingArrivals}
+use Rattle.ld_options.specs.RampingUsers.{AreRampingUsers, RefusesRampingUsers}
 use Rattle.ld_options.specs.declared.executor.Executor.{Executor}
 use Rattle.ld_options.specs.declared.executor.Executor.TheVariants as executors
 use Rattle.ld_options.specs.declared.fault.OptionsFault.{OptionsFault}
@@ -17,7 +19,7 @@ use Rattle.serde_json.specs.Find.{as_str}
 
 -- all kinds of executors
 abbrev pub kinds : List Kind
-kinds = SharedIterations ∷ PerVuIterations ∷ ConstantVus ∷ ConstantArrivals ∷ []
+kinds = SharedIterations ∷ PerVuIterations ∷ ConstantVus ∷ ConstantArrivals ∷ RampingVus ∷ RampingArrivals ∷ []
 
 -- the name of the executors of a kind
 abbrev pub name_of : Kind → List ℕ
@@ -65,8 +67,8 @@ IsExecutor node (executors.SharedIterations vus iterations max_duration) = AreSh
 IsExecutor node (executors.PerVuIterations vus iterations max_duration) = ArePerUser node vus iterations max_duration
 IsExecutor node (executors.ConstantVus vus duration) = AreConstant node vus duration
 IsExecutor node (executors.ConstantArrivals rate unit duration pre max) = AreArrivals node rate unit duration pre max
-IsExecutor node (executors.RampingVus start stages ramp_grace) = ⊥
-IsExecutor node (executors.RampingArrivals start_rate unit stages pre max) = ⊥
+IsExecutor node (executors.RampingVus start stages ramp_grace) = AreRampingUsers node start stages ramp_grace
+IsExecutor node (executors.RampingArrivals start_rate unit stages pre max) = AreRampingArrivals node start_rate unit stages pre max
 
 -- the first field of an executor of this kind that is refused
 abbrev pub RefusesExecutor : Kind → NodeView → OptionsFault → Type 0
@@ -74,5 +76,5 @@ RefusesExecutor SharedIterations node = RefusesShared node
 RefusesExecutor PerVuIterations node = RefusesPerUser node
 RefusesExecutor ConstantVus node = RefusesConstant node
 RefusesExecutor ConstantArrivals node = RefusesArrivals node
-RefusesExecutor RampingVus node = λ fault. ⊥
-RefusesExecutor RampingArrivals node = λ fault. ⊥
+RefusesExecutor RampingVus node = RefusesRampingUsers node
+RefusesExecutor RampingArrivals node = RefusesRampingArrivals node

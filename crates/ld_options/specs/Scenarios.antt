@@ -7,20 +7,14 @@ use Rattle.ld_json.specs.Rules.{Then}
 use Rattle.ld_options.specs.Executors.{IsExecutor, RefusesExecutor, executor_kind, fields_of, kind_of}
 use Rattle.ld_options.specs.Faults.{Refused, of_node}
 use Rattle.ld_options.specs.Fields.{given}
-use Rattle.ld_options.specs.Ranges.{longest}
-use Rattle.ld_options.specs.Times.{IsTime, RefusesTime}
+use Rattle.ld_options.specs.Times.{IsTime, RefusesTime, spans}
 use Rattle.ld_options.specs.declared.fault.OptionsFault.{OptionsFault}
 use Rattle.ld_options.specs.declared.fault.OptionsFault.TheVariants as faults
 use Rattle.ld_options.specs.declared.kind.Kind.{Kind}
-use Rattle.ld_script.specs.declared.range.Range.{Range}
 use Rattle.ld_options.specs.declared.scenario.Scenario.{Scenario}
 use Rattle.ld_script.specs.Name.{IsName, Lacks}
 use Rattle.ld_script.specs.Refusal.{Member}
 use Rattle.serde_json.specs.Find.{as_str}
-
--- the range of begins and of graces
-abbrev pub spans : Range
-spans = record { least = 0; most = longest }
 
 -- the number of the script that a scenario names, `default` where it names none
 pub record IsScript (names : List (List ℕ)) (node : NodeView) (at : ℕ) : Type 0 where

@@ -15,6 +15,10 @@ units = record { least = 1; most = longest_unit }
 abbrev pub durations : Range
 durations = record { least = 1; most = longest }
 
+-- the range of begins and of graces
+abbrev pub spans : Range
+spans = record { least = 0; most = longest }
+
 -- the field's text is refused, or else its span of time
 abbrev pub RefusesTime : Range → Option (List ℕ) → NodeView → List ℕ → OptionsFault → Type 0
 RefusesTime range default node name = OfScripts (times.RefusesTime range default node name)

@@ -11,7 +11,7 @@ use crate::executor::Executor;
 use crate::fault::OptionsFault;
 use crate::fields::number;
 use crate::times::{DURATIONS, UNITS, time};
-use crate::users::{PLANNED_USERS, greatest};
+use crate::users::{greatest, planned_users};
 use ld_json::Node;
 use ld_script::Range;
 use std::alloc::Global;
@@ -33,7 +33,7 @@ pub(crate) fn constant_arrivals(alloc: Global, node: &Node<'_>) -> Result<Execut
     let rate = number(alloc, node, "rate", None, RATES)?;
     let unit = time(alloc, node, "timeUnit", Some("1s"), UNITS)?;
     let duration = time(alloc, node, "duration", None, DURATIONS)?;
-    let pre = number(alloc, node, "preAllocatedVUs", None, PLANNED_USERS)?;
+    let pre = planned_users(alloc, node)?;
     let max = greatest(alloc, node, pre)?;
     Ok(Executor::ConstantArrivals {
         rate,

@@ -33,6 +33,9 @@ pub enum OptionsFault {
     /// This number, or this number of members, is out of its range.
     #[error("a number is out of its range")]
     Range(Path),
+    /// This list, `stages`, has no stage.
+    #[error("there are no stages")]
+    NoStages(Path),
     /// This field, `maxVUs`, is below `preAllocatedVUs`.
     #[error("there are fewer users than are made before")]
     MaxBelowPre(Path),

@@ -43,6 +43,10 @@ impl Kind {
             Some(Kind::ConstantVus)
         } else if name == Kind::ConstantArrivals.name().as_bytes() {
             Some(Kind::ConstantArrivals)
+        } else if name == Kind::RampingVus.name().as_bytes() {
+            Some(Kind::RampingVus)
+        } else if name == Kind::RampingArrivals.name().as_bytes() {
+            Some(Kind::RampingArrivals)
         } else {
             None
         }

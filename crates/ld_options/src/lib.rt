@@ -12,8 +12,11 @@ mod kind;
 mod laws;
 mod member;
 mod options;
+mod ramping_arrivals;
+mod ramping_users;
 mod scenario;
 mod scenarios;
+mod stages;
 mod times;
 mod users;
 

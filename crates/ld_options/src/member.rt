@@ -13,18 +13,14 @@ use crate::fault::OptionsFault;
 use crate::fields::text_given;
 use crate::iterations::{iterations_per_user, shared_iterations};
 use crate::kind::Kind;
+use crate::ramping_arrivals::ramping_arrivals;
+use crate::ramping_users::ramping_users;
 use crate::scenario::Scenario;
-use crate::times::time;
+use crate::times::{SPANS, time};
 use ld_base::Text;
 use ld_json::Node;
-use ld_script::{Range, Scripts, is_name};
+use ld_script::{Scripts, is_name};
 use std::alloc::Global;
-
-/// The range of begins and of graces, in nanoseconds: up to 30 days.
-const SPANS: Range = Range {
-    least: 0,
-    most: 2_592_000_000_000_000,
-};
 
 // The scenario that a member says.
 pub(crate) fn scenario(
@@ -110,6 +106,7 @@ fn executor(alloc: Global, kind: Kind, node: &Node<'_>) -> Result<Executor, Opti
         Kind::PerVuIterations => iterations_per_user(alloc, node),
         Kind::ConstantVus => constant_users(alloc, node),
         Kind::ConstantArrivals => constant_arrivals(alloc, node),
-        Kind::RampingVus | Kind::RampingArrivals => Err(OptionsFault::Memory),
+        Kind::RampingVus => ramping_users(alloc, node),
+        Kind::RampingArrivals => ramping_arrivals(alloc, node),
     }
 }

@@ -21,6 +21,12 @@ pub(crate) const DURATIONS: Range = Range {
     most: 2_592_000_000_000_000,
 };
 
+/// The range of begins and of graces, in nanoseconds: up to 30 days.
+pub(crate) const SPANS: Range = Range {
+    least: 0,
+    most: 2_592_000_000_000_000,
+};
+
 // The span of time of the field of this name, in its range. Without a default it is needed.
 pub(crate) fn time(
     alloc: Global,
