@@ -63,6 +63,7 @@ test_status_is test (options.Unknown path) refused = refl
 test_status_is test (options.BadName path) refused = refl
 test_status_is test (options.BadExecutor path) refused = refl
 test_status_is test (options.Range path) refused = refl
+test_status_is test (options.NoStages path) refused = refl
 test_status_is test (options.MaxBelowPre path) refused = refl
 test_status_is test (options.ScriptUnknown path) refused = refl
 test_status_is test (options.Number path fault) refused = refl

@@ -81,6 +81,7 @@ pub fn test_line(alloc: Global, fault: &OptionsFault) -> Result<Vec<u8>, BaseFau
         OptionsFault::BadName(path) => line_at(alloc, b"error 60 BadName ", path),
         OptionsFault::BadExecutor(path) => line_at(alloc, b"error 61 BadExecutor ", path),
         OptionsFault::Range(path) => line_at(alloc, b"error 62 Range ", path),
+        OptionsFault::NoStages(path) => line_at(alloc, b"error 63 NoStages ", path),
         OptionsFault::MaxBelowPre(path) => line_at(alloc, b"error 64 MaxBelowPre ", path),
         OptionsFault::ScriptUnknown(path) => line_at(alloc, b"error 65 ScriptUnknown ", path),
         OptionsFault::Number { path, fault } => line_at(alloc, number_name(fault), path),

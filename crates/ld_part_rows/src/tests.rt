@@ -6,6 +6,7 @@ mod moments;
 mod numbers;
 mod options;
 mod plans;
+mod ramps;
 mod refusals;
 mod requests;
 mod responses;

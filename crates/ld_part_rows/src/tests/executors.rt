@@ -116,7 +116,8 @@ fn object_text(alloc: Global, members: &str) -> Result<String, Fail> {
     Ok(format!(in alloc; "{{{object}}}")?)
 }
 
-struct Listed;
+/// The document of a scenario of these members, and what it asks for.
+pub struct Listed;
 
 impl Call for Listed {
     fn answer(alloc: Global, given: &str) -> Result<String, Fail> {

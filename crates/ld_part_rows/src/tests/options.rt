@@ -3,7 +3,7 @@
 use crate::tests::refusals::refusal;
 use crate::tests::scripts::scripts_text;
 use crate::tests::table::{Call, add, add_behind_comma, check, first_word, text_of};
-use ld_base::Text;
+use ld_base::{Stages, Text};
 use ld_options::{Executor, Options, Scenario, Scenarios};
 use std::alloc::Global;
 use std::test::Fail;
@@ -259,7 +259,37 @@ fn executor_text(alloc: Global, executor: &Executor) -> Result<String, Fail> {
         } => Ok(format!(in alloc;
             "rate {rate} unit {unit} duration {duration} users {pre} {max}"
         )?),
+        Executor::RampingVus {
+            start,
+            stages,
+            ramp_grace,
+        } => {
+            let stages = stages_text(alloc, stages)?;
+            Ok(format!(in alloc; "{name} start {start}{stages} rampGrace {ramp_grace}")?)
+        }
+        Executor::RampingArrivals {
+            start_rate,
+            unit,
+            stages,
+            pre,
+            max,
+        } => {
+            let stages = stages_text(alloc, stages)?;
+            Ok(format!(in alloc;
+                "{name} start {start_rate} unit {unit}{stages} users {pre} {max}"
+            )?)
+        }
     }
+}
+
+// Stages: the length of each, and its target.
+fn stages_text(alloc: Global, stages: &Stages) -> Result<String, Fail> {
+    let mut text = String::new(alloc);
+    for stage in stages.as_slice() {
+        let (length, target) = (stage.length, stage.target);
+        write!(text, " {length}:{target}")?;
+    }
+    Ok(text)
 }
 
 // A scenario, and how many scripts there are.

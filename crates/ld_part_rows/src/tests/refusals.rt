@@ -26,6 +26,7 @@ fn cause_of(fault: &OptionsFault) -> &'static str {
         OptionsFault::BadName(_) => "BadName",
         OptionsFault::BadExecutor(_) => "BadExecutor",
         OptionsFault::Range(_) => "Range",
+        OptionsFault::NoStages(_) => "NoStages",
         OptionsFault::MaxBelowPre(_) => "MaxBelowPre",
         OptionsFault::ScriptUnknown(_) => "ScriptUnknown",
         OptionsFault::Number { path: _, fault } => cause_of_number(fault),
@@ -55,6 +56,7 @@ fn path_of(fault: &OptionsFault) -> &[u8] {
         | OptionsFault::BadName(path)
         | OptionsFault::BadExecutor(path)
         | OptionsFault::Range(path)
+        | OptionsFault::NoStages(path)
         | OptionsFault::MaxBelowPre(path)
         | OptionsFault::ScriptUnknown(path)
         | OptionsFault::Number { path, fault: _ } => path.as_slice(),
