@@ -93,7 +93,6 @@ module _ (rate unit duration pre max : ℕ) (unit_small : unit < 2 ^ 64) (durati
   executor_is (executors.PerVuIterations v i m) kind are = absurd cc
   executor_is (executors.ConstantVus v d) kind are = absurd cc
   executor_is (executors.ConstantArrivals r u d p m) kind are = arrivals_are r u d p m are
-  executor_is (executors.RampingVus s t g) kind are = absurd cc
   executor_is (executors.RampingArrivals s u t p m) kind are = absurd cc
 
   scenario_is : (s : Scenario) → IsScenarioOf names (codes "main", node) s → s ≡ rate_scenario rate unit duration pre max

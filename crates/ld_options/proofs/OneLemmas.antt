@@ -17,7 +17,6 @@ use Rattle.ld_options.specs.Executors.{IsExecutor, RefusesExecutor, executor_kin
 use Rattle.ld_options.specs.Faults.{Refused, of_script}
 use Rattle.ld_options.specs.Iterations.{ArePerUser, AreShared, RefusesEach, RefusesPerUser, RefusesShared, count_of_each}
 use Rattle.ld_options.specs.RampingArrivals.{AreRampingArrivals, RefusesRampingArrivals}
-use Rattle.ld_options.specs.RampingUsers.{AreRampingUsers, RefusesRampingUsers}
 use Rattle.ld_options.specs.Ranges.{most_scenarios}
 use Rattle.ld_options.specs.Scenarios.{IsLost, IsScenarioOf, IsScript, RefusesFields, RefusesKnown, RefusesScenario, RefusesScript}
 use Rattle.ld_options.specs.Stages.{AreTooLong, RefusesElements, RefusesStage, RefusesStages, stages_path}
@@ -59,7 +58,6 @@ IsOfKind kinds.SharedIterations node x = (v i m : ℕ) × (x ≡ executors.Share
 IsOfKind kinds.PerVuIterations node x = (v i m : ℕ) × (x ≡ executors.PerVuIterations v i m) × ArePerUser node v i m
 IsOfKind kinds.ConstantVus node x = (v d : ℕ) × (x ≡ executors.ConstantVus v d) × AreConstant node v d
 IsOfKind kinds.ConstantArrivals node x = (r u d p m : ℕ) × (x ≡ executors.ConstantArrivals r u d p m) × AreArrivals node r u d p m
-IsOfKind kinds.RampingVus node x = (s : ℕ) × (t : List Stage) × (g : ℕ) × (x ≡ executors.RampingVus s t g) × AreRampingUsers node s t g
 IsOfKind kinds.RampingArrivals node x =
     (s u : ℕ) × (t : List Stage) × (p m : ℕ) × (x ≡ executors.RampingArrivals s u t p m) × AreRampingArrivals node s u t p m
 
@@ -68,7 +66,6 @@ of_kind node (executors.SharedIterations v i m) are = (v, i, m, refl, are)
 of_kind node (executors.PerVuIterations v i m) are = (v, i, m, refl, are)
 of_kind node (executors.ConstantVus v d) are = (v, d, refl, are)
 of_kind node (executors.ConstantArrivals r u d p m) are = (r, u, d, p, m, refl, are)
-of_kind node (executors.RampingVus s t g) are = (s, t, g, refl, are)
 of_kind node (executors.RampingArrivals s u t p m) are = (s, u, t, p, m, refl, are)
 
 one_shared : (node : NodeView) (v i m w j n : ℕ) → AreShared node v i m → AreShared node w j n → executors.SharedIterations v i m ≡ executors.SharedIterations w j n
@@ -101,14 +98,6 @@ one_arrivals node a b c d e f g h i j left right =
     let max = one_answer _ e j (subst (λ p. greatest p node ≡ Ok e) pre left.max_is) right.max_is in
     rw (rate, unit, duration, pre, max) refl
 
-one_ramping_users : (node : NodeView) (s t : ℕ) (ss ts : List Stage) (g h : ℕ) → AreRampingUsers node s ss g → AreRampingUsers node t ts h →
-    executors.RampingVus s ss g ≡ executors.RampingVus t ts h
-one_ramping_users node s t ss ts g h left right =
-    let start = one_answer _ s t left.start_is right.start_is in
-    let stages = one_ramp _ node ss ts left.stages_are right.stages_are in
-    let ramp_grace = one_time _ _ node _ g h left.ramp_grace_is right.ramp_grace_is in
-    rw (start, stages, ramp_grace) refl
-
 one_ramping_arrivals : (node : NodeView) (a b d e f g i j : ℕ) (ss ts : List Stage) → AreRampingArrivals node a b ss d e →
     AreRampingArrivals node f g ts i j → executors.RampingArrivals a b ss d e ≡ executors.RampingArrivals f g ts i j
 one_ramping_arrivals node a b d e f g i j ss ts left right =
@@ -125,7 +114,6 @@ one_of_kind kinds.PerVuIterations node x y (v, i, m, x_is, left) (w, j, n, y_is,
 one_of_kind kinds.ConstantVus node x y (v, d, x_is, left) (w, e, y_is, right) = x_is ∙ one_constant node v d w e left right ∙ sym y_is
 one_of_kind kinds.ConstantArrivals node x y (a, b, c, d, e, x_is, left) (f, g, h, i, j, y_is, right) =
     x_is ∙ one_arrivals node a b c d e f g h i j left right ∙ sym y_is
-one_of_kind kinds.RampingVus node x y (a, b, c, x_is, left) (d, e, f, y_is, right) = x_is ∙ one_ramping_users node a d b e c f left right ∙ sym y_is
 one_of_kind kinds.RampingArrivals node x y (a, b, c, d, e, x_is, left) (f, g, h, i, j, y_is, right) =
     x_is ∙ one_ramping_arrivals node a b d e f g i j c h left right ∙ sym y_is
 
@@ -237,9 +225,6 @@ elements_single most node f g left right =
 stages_single : (most : ℕ) (node : NodeView) → IsSingle (RefusesStages most node)
 stages_single most node = then_single _ _ (refused_single _) (elements_single most node)
 
-ramping_users_single : (node : NodeView) → IsSingle (RefusesRampingUsers node)
-ramping_users_single node = then_single _ _ (refused_single _) (then_single _ _ (stages_single _ node) (time_single _ _ node _))
-
 ramping_arrivals_single : (node : NodeView) → IsSingle (RefusesRampingArrivals node)
 ramping_arrivals_single node =
     then_single _ _ (refused_single _)
@@ -253,7 +238,6 @@ executor_single kinds.SharedIterations node = shared_single node
 executor_single kinds.PerVuIterations node = per_user_single node
 executor_single kinds.ConstantVus node = constant_single node
 executor_single kinds.ConstantArrivals node = arrivals_single node
-executor_single kinds.RampingVus node = ramping_users_single node
 executor_single kinds.RampingArrivals node = ramping_arrivals_single node
 
 fields_single : (names : List (List ℕ)) (kind : Kind) (node : NodeView) → IsSingle (RefusesFields names kind node)

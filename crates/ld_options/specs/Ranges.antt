@@ -3,7 +3,7 @@ use Rattle.std.specs.Prelude.{◌≤◌, ◌*◌, ℕ, List, All, length, sum_by
 use Rattle.std.specs.List.{AllByRecursion}
 use Rattle.ld_base.specs.declared.stage.Stage.{Stage}
 use Rattle.ld_options.specs.declared.executor.Executor.{Executor}
-use Rattle.ld_options.specs.declared.executor.Executor.TheVariants.{SharedIterations, PerVuIterations, ConstantVus, ConstantArrivals, RampingVus, RampingArrivals}
+use Rattle.ld_options.specs.declared.executor.Executor.TheVariants.{SharedIterations, PerVuIterations, ConstantVus, ConstantArrivals, RampingArrivals}
 use Rattle.ld_options.specs.declared.scenario.Scenario.{Scenario}
 pub use Rattle.ld_script.specs.Ranges.{IsWithin, longest}
 
@@ -64,12 +64,6 @@ pub record AreStagesInRange (greatest : ℕ) (stages : List Stage) : Type 0 wher
   pub targets : All (λ stage. stage.target ≤ greatest) stages
   pub together : sum_by (λ stage. stage.length) stages ≤ longest
 
--- the numbers of ramping users are in their ranges
-pub record AreRampingUsersInRange (start : ℕ) (stages : List Stage) (ramp_grace : ℕ) : Type 0 where
-  pub users : IsWithin 0 most_users start
-  pub stages_in_range : AreStagesInRange most_users stages
-  pub ramp_graces : IsWithin 0 longest ramp_grace
-
 -- the numbers of ramping arrivals are in their ranges
 pub record AreRampingArrivalsInRange (start_rate unit : ℕ) (stages : List Stage) (pre max : ℕ) : Type 0 where
   pub rates : IsWithin 0 greatest_rate start_rate
@@ -85,7 +79,6 @@ IsInRange (SharedIterations vus iterations max_duration) = AreSharedInRange vus 
 IsInRange (PerVuIterations vus iterations max_duration) = ArePerUserInRange vus iterations max_duration
 IsInRange (ConstantVus vus duration) = AreConstantInRange vus duration
 IsInRange (ConstantArrivals rate unit duration pre max) = AreArrivalsInRange rate unit duration pre max
-IsInRange (RampingVus start stages ramp_grace) = AreRampingUsersInRange start stages ramp_grace
 IsInRange (RampingArrivals start_rate unit stages pre max) = AreRampingArrivalsInRange start_rate unit stages pre max
 
 -- the numbers of a scenario are in their ranges

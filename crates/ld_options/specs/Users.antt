@@ -9,7 +9,7 @@ use Rattle.ld_options.specs.declared.fault.OptionsFault.{OptionsFault}
 use Rattle.ld_options.specs.declared.fault.OptionsFault.TheVariants as faults
 use Rattle.ld_script.specs.declared.range.Range.{Range}
 
--- the range of the users that are made before a scenario begins or are on at its begin, and that of the greatest number of users
+-- the range of the users that are made before a scenario begins, and that of the greatest number of users
 abbrev pub planned_users : Range
 planned_users = record { least = 0; most = most_users }
 
@@ -19,10 +19,6 @@ users = record { least = 1; most = most_users }
 -- how many users there are; where it isn't given, one
 abbrev pub user_count : NodeView → Result ℕ OptionsFault
 user_count node = number users (Some 1) node (codes "vus")
-
--- how many users are on at the begin; where it isn't given, one
-abbrev pub start_users : NodeView → Result ℕ OptionsFault
-start_users node = number planned_users (Some 1) node (codes "startVUs")
 
 -- how many users are made before the scenario begins
 abbrev pub pre_allocated : NodeView → Result ℕ OptionsFault

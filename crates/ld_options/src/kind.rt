@@ -15,7 +15,6 @@ pub(crate) enum Kind {
     PerVuIterations,
     ConstantVus,
     ConstantArrivals,
-    RampingVus,
     RampingArrivals,
 }
 
@@ -43,8 +42,6 @@ impl Kind {
             Some(Kind::ConstantVus)
         } else if name == Kind::ConstantArrivals.name().as_bytes() {
             Some(Kind::ConstantArrivals)
-        } else if name == Kind::RampingVus.name().as_bytes() {
-            Some(Kind::RampingVus)
         } else if name == Kind::RampingArrivals.name().as_bytes() {
             Some(Kind::RampingArrivals)
         } else {
@@ -61,7 +58,6 @@ impl Kind {
             Kind::PerVuIterations => "per-vu-iterations",
             Kind::ConstantVus => "constant-vus",
             Kind::ConstantArrivals => "constant-arrival-rate",
-            Kind::RampingVus => "ramping-vus",
             Kind::RampingArrivals => "ramping-arrival-rate",
         }
     }
@@ -77,9 +73,6 @@ impl Kind {
             Kind::ConstantVus => "executor startTime gracefulStop exec vus duration",
             Kind::ConstantArrivals => {
                 "executor startTime gracefulStop exec rate timeUnit duration preAllocatedVUs maxVUs"
-            }
-            Kind::RampingVus => {
-                "executor startTime gracefulStop exec startVUs stages gracefulRampDown"
             }
             Kind::RampingArrivals => {
                 "executor startTime gracefulStop exec startRate timeUnit preAllocatedVUs maxVUs stages"

@@ -13,7 +13,6 @@ mod laws;
 mod member;
 mod options;
 mod ramping_arrivals;
-mod ramping_users;
 mod scenario;
 mod scenarios;
 mod stages;

@@ -14,7 +14,6 @@ use crate::fields::text_given;
 use crate::iterations::{iterations_per_user, shared_iterations};
 use crate::kind::Kind;
 use crate::ramping_arrivals::ramping_arrivals;
-use crate::ramping_users::ramping_users;
 use crate::scenario::Scenario;
 use crate::times::{SPANS, time};
 use ld_base::Text;
@@ -106,7 +105,6 @@ fn executor(alloc: Global, kind: Kind, node: &Node<'_>) -> Result<Executor, Opti
         Kind::PerVuIterations => iterations_per_user(alloc, node),
         Kind::ConstantVus => constant_users(alloc, node),
         Kind::ConstantArrivals => constant_arrivals(alloc, node),
-        Kind::RampingVus => ramping_users(alloc, node),
         Kind::RampingArrivals => ramping_arrivals(alloc, node),
     }
 }

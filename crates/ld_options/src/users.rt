@@ -2,7 +2,7 @@
 ghost use Rattle.std.specs.Prelude.{◌≤◌, IfOk};
 ghost use Rattle.ld_options.specs.Faults.{Answers};
 ghost use Rattle.ld_options.specs.Ranges.{IsWithin, most_users};
-ghost use Rattle.ld_options.specs.Users.{greatest as greatest_of, pre_allocated, start_users, user_count};
+ghost use Rattle.ld_options.specs.Users.{greatest as greatest_of, pre_allocated, user_count};
 
 use crate::fault::OptionsFault;
 use crate::fields::{number, ranged, whole_given};
@@ -10,7 +10,7 @@ use ld_json::Node;
 use ld_script::Range;
 use std::alloc::Global;
 
-/// The range of the users that are made before the scenario begins, or are on at its begin.
+/// The range of the users that are made before the scenario begins.
 const PLANNED_USERS: Range = Range {
     least: 0,
     most: 1_000,
@@ -28,14 +28,6 @@ pub(crate) fn user_count(alloc: Global, node: &Node<'_>) -> Result<u32, OptionsF
     ensures within { IfOk result (λ vus. IsWithin 1 most_users vus) }
 {
     Ok(number(alloc, node, "vus", Some(1), USERS)? as u32)
-}
-
-// How many users are on at the begin.
-pub(crate) fn start_users(alloc: Global, node: &Node<'_>) -> Result<u32, OptionsFault>
-    ensures answer { Answers result (start_users node.now) }
-    ensures within { IfOk result (λ start. IsWithin 0 most_users start) }
-{
-    Ok(number(alloc, node, "startVUs", Some(1), PLANNED_USERS)? as u32)
 }
 
 // How many users are made before the scenario begins.

@@ -19,9 +19,6 @@ returns-in-ConstantArrivals-clause-accepted c = rw c.in-ConstantArrivals.is c.co
 pub returns-in-ConstantArrivals-clause-refused : goal.returns-in-ConstantArrivals-clause-refused
 returns-in-ConstantArrivals-clause-refused c = rw c.in-ConstantArrivals.is c.constant_arrivals.ensures.refused
 
-pub returns-in-RampingVus-clause-accepted : goal.returns-in-RampingVus-clause-accepted
-returns-in-RampingVus-clause-accepted c = rw c.in-RampingVus.is c.ramping_users.ensures.accepted
-
 pub returns-in-RampingArrivals-clause-accepted : goal.returns-in-RampingArrivals-clause-accepted
 returns-in-RampingArrivals-clause-accepted c = rw c.in-RampingArrivals.is c.ramping_arrivals.ensures.accepted
 
