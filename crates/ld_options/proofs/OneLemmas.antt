@@ -53,7 +53,6 @@ IsOfKind kinds.SharedIterations node x = (v i m : ℕ) × (x ≡ executors.Share
 IsOfKind kinds.PerVuIterations node x = (v i m : ℕ) × (x ≡ executors.PerVuIterations v i m) × ArePerUser node v i m
 IsOfKind kinds.ConstantVus node x = (v d : ℕ) × (x ≡ executors.ConstantVus v d) × AreConstant node v d
 IsOfKind kinds.ConstantArrivals node x = (r u d p m : ℕ) × (x ≡ executors.ConstantArrivals r u d p m) × AreArrivals node r u d p m
-IsOfKind kinds.RampingVus node x = ⊥
 IsOfKind kinds.RampingArrivals node x = ⊥
 
 of_kind : (node : NodeView) (x : Executor) → IsExecutor node x → IsOfKind (executor_kind x) node x
@@ -61,7 +60,6 @@ of_kind node (executors.SharedIterations v i m) are = (v, i, m, refl, are)
 of_kind node (executors.PerVuIterations v i m) are = (v, i, m, refl, are)
 of_kind node (executors.ConstantVus v d) are = (v, d, refl, are)
 of_kind node (executors.ConstantArrivals r u d p m) are = (r, u, d, p, m, refl, are)
-of_kind node (executors.RampingVus s t g) are = absurd are
 of_kind node (executors.RampingArrivals s u t p m) are = absurd are
 
 one_shared : (node : NodeView) (v i m w j n : ℕ) → AreShared node v i m → AreShared node w j n → executors.SharedIterations v i m ≡ executors.SharedIterations w j n
@@ -100,7 +98,6 @@ one_of_kind kinds.PerVuIterations node x y (v, i, m, x_is, left) (w, j, n, y_is,
 one_of_kind kinds.ConstantVus node x y (v, d, x_is, left) (w, e, y_is, right) = x_is ∙ one_constant node v d w e left right ∙ sym y_is
 one_of_kind kinds.ConstantArrivals node x y (a, b, c, d, e, x_is, left) (f, g, h, i, j, y_is, right) =
     x_is ∙ one_arrivals node a b c d e f g h i j left right ∙ sym y_is
-one_of_kind kinds.RampingVus node x y left right = absurd left
 one_of_kind kinds.RampingArrivals node x y left right = absurd left
 
 one_executor : (node : NodeView) (x y : Executor) → executor_kind x ≡ executor_kind y → IsExecutor node x → IsExecutor node y → x ≡ y
@@ -201,7 +198,6 @@ executor_single kinds.SharedIterations node = shared_single node
 executor_single kinds.PerVuIterations node = per_user_single node
 executor_single kinds.ConstantVus node = constant_single node
 executor_single kinds.ConstantArrivals node = arrivals_single node
-executor_single kinds.RampingVus node = λ f g left right. absurd left
 executor_single kinds.RampingArrivals node = λ f g left right. absurd left
 
 fields_single : (names : List (List ℕ)) (kind : Kind) (node : NodeView) → IsSingle (RefusesFields names kind node)

@@ -12,7 +12,7 @@ use Rattle.ld_options.specs.declared.executor.Executor.TheVariants as executors
 use Rattle.ld_options.specs.declared.fault.OptionsFault.{OptionsFault}
 use Rattle.ld_options.specs.declared.fault.OptionsFault.TheVariants as faults
 use Rattle.ld_options.specs.declared.kind.Kind.{Kind}
-use Rattle.ld_options.specs.declared.kind.Kind.TheVariants.{SharedIterations, PerVuIterations, ConstantVus, ConstantArrivals, RampingVus, RampingArrivals}
+use Rattle.ld_options.specs.declared.kind.Kind.TheVariants.{SharedIterations, PerVuIterations, ConstantVus, ConstantArrivals, RampingArrivals}
 use Rattle.serde_json.specs.Find.{as_str}
 
 -- all kinds of executors
@@ -25,7 +25,6 @@ name_of SharedIterations = codes "shared-iterations"
 name_of PerVuIterations = codes "per-vu-iterations"
 name_of ConstantVus = codes "constant-vus"
 name_of ConstantArrivals = codes "constant-arrival-rate"
-name_of RampingVus = codes "ramping-vus"
 name_of RampingArrivals = codes "ramping-arrival-rate"
 
 -- the fields that a scenario of an executor may have
@@ -34,7 +33,6 @@ fields_of SharedIterations = codes "executor startTime gracefulStop exec vus ite
 fields_of PerVuIterations = codes "executor startTime gracefulStop exec vus iterations maxDuration"
 fields_of ConstantVus = codes "executor startTime gracefulStop exec vus duration"
 fields_of ConstantArrivals = codes "executor startTime gracefulStop exec rate timeUnit duration preAllocatedVUs maxVUs"
-fields_of RampingVus = codes "executor startTime gracefulStop exec startVUs stages gracefulRampDown"
 fields_of RampingArrivals = codes "executor startTime gracefulStop exec startRate timeUnit preAllocatedVUs maxVUs stages"
 
 -- the kind of this name
@@ -52,7 +50,6 @@ executor_kind (executors.SharedIterations vus iterations max_duration) = SharedI
 executor_kind (executors.PerVuIterations vus iterations max_duration) = PerVuIterations
 executor_kind (executors.ConstantVus vus duration) = ConstantVus
 executor_kind (executors.ConstantArrivals rate unit duration pre max) = ConstantArrivals
-executor_kind (executors.RampingVus start stages ramp_grace) = RampingVus
 executor_kind (executors.RampingArrivals start_rate unit stages pre max) = RampingArrivals
 
 -- an executor, as k6 names it
@@ -65,7 +62,6 @@ IsExecutor node (executors.SharedIterations vus iterations max_duration) = AreSh
 IsExecutor node (executors.PerVuIterations vus iterations max_duration) = ArePerUser node vus iterations max_duration
 IsExecutor node (executors.ConstantVus vus duration) = AreConstant node vus duration
 IsExecutor node (executors.ConstantArrivals rate unit duration pre max) = AreArrivals node rate unit duration pre max
-IsExecutor node (executors.RampingVus start stages ramp_grace) = ⊥
 IsExecutor node (executors.RampingArrivals start_rate unit stages pre max) = ⊥
 
 -- the first field of an executor of this kind that is refused
@@ -74,5 +70,4 @@ RefusesExecutor SharedIterations node = RefusesShared node
 RefusesExecutor PerVuIterations node = RefusesPerUser node
 RefusesExecutor ConstantVus node = RefusesConstant node
 RefusesExecutor ConstantArrivals node = RefusesArrivals node
-RefusesExecutor RampingVus node = λ fault. ⊥
 RefusesExecutor RampingArrivals node = λ fault. ⊥

@@ -3,7 +3,7 @@ use Rattle.std.specs.Prelude.{◌≤◌, ◌*◌, ℕ, List, All, length, sum_by
 use Rattle.std.specs.List.{AllByRecursion}
 use Rattle.ld_base.specs.declared.stage.Stage.{Stage}
 use Rattle.ld_options.specs.declared.executor.Executor.{Executor}
-use Rattle.ld_options.specs.declared.executor.Executor.TheVariants.{SharedIterations, PerVuIterations, ConstantVus, ConstantArrivals, RampingVus, RampingArrivals}
+use Rattle.ld_options.specs.declared.executor.Executor.TheVariants.{SharedIterations, PerVuIterations, ConstantVus, ConstantArrivals, RampingArrivals}
 use Rattle.ld_options.specs.declared.scenario.Scenario.{Scenario}
 pub use Rattle.ld_script.specs.Ranges.{IsWithin, longest}
 
@@ -85,7 +85,6 @@ IsInRange (SharedIterations vus iterations max_duration) = AreSharedInRange vus 
 IsInRange (PerVuIterations vus iterations max_duration) = ArePerUserInRange vus iterations max_duration
 IsInRange (ConstantVus vus duration) = AreConstantInRange vus duration
 IsInRange (ConstantArrivals rate unit duration pre max) = AreArrivalsInRange rate unit duration pre max
-IsInRange (RampingVus start stages ramp_grace) = AreRampingUsersInRange start stages ramp_grace
 IsInRange (RampingArrivals start_rate unit stages pre max) = AreRampingArrivalsInRange start_rate unit stages pre max
 
 -- the numbers of a scenario are in their ranges

@@ -47,18 +47,6 @@ pub enum Executor {
         /// How many users there may be, `maxVUs`: from 1 to 1,000, and not below `pre`.
         max: u32,
     },
-    /// `ramping-vus`: users are turned on and off in stages, and each that is on begins one iteration
-    /// after another.
-    RampingVus {
-        /// How many users are on at the begin, `startVUs`: at most 1,000.
-        start: u32,
-        /// The stages, `stages`: from 1 to 100, with targets of at most 1,000 users, and together no
-        /// longer than 30 days.
-        stages: Stages,
-        /// How long an iteration may last behind the moment at which its user is turned off,
-        /// `gracefulRampDown`, in nanoseconds: at most 30 days.
-        ramp_grace: u64,
-    },
     /// `ramping-arrival-rate`: iterations begin at a rate that changes in stages, whether earlier ones
     /// have ended or not.
     RampingArrivals {
@@ -95,7 +83,6 @@ impl Executor {
             Executor::PerVuIterations { .. } => Kind::PerVuIterations,
             Executor::ConstantVus { .. } => Kind::ConstantVus,
             Executor::ConstantArrivals { .. } => Kind::ConstantArrivals,
-            Executor::RampingVus { .. } => Kind::RampingVus,
             Executor::RampingArrivals { .. } => Kind::RampingArrivals,
         }
     }
@@ -139,15 +126,6 @@ impl Executor {
                 duration: *duration,
                 pre: *pre,
                 max: *max,
-            }),
-            Executor::RampingVus {
-                start,
-                stages,
-                ramp_grace,
-            } => Ok(Executor::RampingVus {
-                start: *start,
-                stages: copy_of(alloc, stages)?,
-                ramp_grace: *ramp_grace,
             }),
             Executor::RampingArrivals {
                 start_rate,

@@ -15,7 +15,6 @@ pub(crate) enum Kind {
     PerVuIterations,
     ConstantVus,
     ConstantArrivals,
-    RampingVus,
     RampingArrivals,
 }
 
@@ -57,7 +56,6 @@ impl Kind {
             Kind::PerVuIterations => "per-vu-iterations",
             Kind::ConstantVus => "constant-vus",
             Kind::ConstantArrivals => "constant-arrival-rate",
-            Kind::RampingVus => "ramping-vus",
             Kind::RampingArrivals => "ramping-arrival-rate",
         }
     }
@@ -73,9 +71,6 @@ impl Kind {
             Kind::ConstantVus => "executor startTime gracefulStop exec vus duration",
             Kind::ConstantArrivals => {
                 "executor startTime gracefulStop exec rate timeUnit duration preAllocatedVUs maxVUs"
-            }
-            Kind::RampingVus => {
-                "executor startTime gracefulStop exec startVUs stages gracefulRampDown"
             }
             Kind::RampingArrivals => {
                 "executor startTime gracefulStop exec startRate timeUnit preAllocatedVUs maxVUs stages"

@@ -110,6 +110,6 @@ fn executor(alloc: Global, kind: Kind, node: &Node<'_>) -> Result<Executor, Opti
         Kind::PerVuIterations => iterations_per_user(alloc, node),
         Kind::ConstantVus => constant_users(alloc, node),
         Kind::ConstantArrivals => constant_arrivals(alloc, node),
-        Kind::RampingVus | Kind::RampingArrivals => Err(OptionsFault::Memory),
+        Kind::RampingArrivals => Err(OptionsFault::Memory),
     }
 }
