@@ -5,7 +5,7 @@ use crate::fault::ArrivalFault;
 use crate::ramping_rate::RampingRate;
 use crate::rates::Rates;
 use ld_base::Stage;
-use std::alloc::Global;
+use std::alloc::{AllocError, Global};
 use std::marker::Model;
 
 /// The most arrivals that may be planned.
@@ -103,6 +103,16 @@ impl Arrivals {
         Ok(Arrivals {
             rates: Rates::Ramping(rate),
             count,
+        })
+    }
+
+    /// Equal arrivals. Fails where there is no memory.
+    pub fn copy(&self, alloc: Global) -> Result<Arrivals, AllocError>
+        ensures { IfOk result (λ arrivals. arrivals ≡ self.now) }
+    {
+        Ok(Arrivals {
+            rates: self.rates.copy(alloc)?,
+            count: self.count,
         })
     }
 

@@ -1,6 +1,7 @@
 // The rates at which arrivals come, of either kind.
 use crate::constant_rate::ConstantRate;
 use crate::ramping_rate::RampingRate;
+use std::alloc::{AllocError, Global};
 
 // A constant rate, or one that ramps through stages.
 #[derive(Drop)]
@@ -10,10 +11,24 @@ pub enum Rates {
 }
 
 impl Rates {
-    ghost use Rattle.std.specs.Prelude.{◌≡◌, ◌<◌};
+    ghost use Rattle.std.specs.Prelude.{◌≡◌, ◌<◌, IfOk};
     ghost use Rattle.ld_arrival.specs.Timetable.{IsPlanned, end_of, moment_of};
     ghost use Rattle.ld_arrival.specs.Limits.{IsWithinLimits};
     ghost use Rattle.ld_arrival.specs.Rates.{timetable_of};
+
+    // Equal rates.
+    pub fn copy(&self, alloc: Global) -> Result<Rates, AllocError>
+        ensures { IfOk result (λ rates. timetable_of rates ≡ timetable_of self.now) }
+    {
+        match self {
+            Rates::Constant(rate) => Ok(Rates::Constant(*rate)),
+            Rates::Ramping(rate) => Ok(Rates::Ramping(RampingRate {
+                start_rate: rate.start_rate,
+                unit: rate.unit,
+                stages: Vec::from_slice(alloc, &rate.stages)?,
+            })),
+        }
+    }
 
     // The moment of arrival `k`, counted from 0.
     pub fn moment(&self, k: u64) -> u64

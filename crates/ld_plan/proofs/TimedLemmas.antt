@@ -1,5 +1,5 @@
 -- The part of a scenario whose numbers are in their ranges is well timed.
-use Rattle.std.proofs.Common.{◌<◌, ℕ, List, [], arith, subst}
+use Rattle.std.proofs.Common.{◌<◌, ◌≤◌, ℕ, List, [], arith, subst}
 use Rattle.std.specs.Prelude.{Contains}
 use Rattle.ld_stripe.specs.Striping.{Striping}
 use Rattle.ld_machine.specs.Plan.{Arrival, Interval, due_moment}
@@ -8,13 +8,12 @@ use Rattle.ld_machine.specs.WellTimed.{IsWellTimed}
 use Rattle.ld_options.specs.Ranges.{IsScenarioInRange}
 use Rattle.ld_options.specs.declared.scenario.Scenario.{Scenario}
 use Rattle.ld_plan.specs.IsPlanOf.{part_of}
-use Rattle.ld_plan.proofs.ExecutorLemmas.{arrivals_in_time, intervals_owned, lasts_some, lasts_within}
+use Rattle.ld_plan.proofs.ExecutorLemmas.{arrivals_in_time, intervals_owned, lasts_within}
 
-pub begins_before_end : (room : ℕ) (striping items : Striping) (j : ℕ) (s : Scenario) → IsScenarioInRange s →
-    (part_of room striping items j s).begin < (part_of room striping items j s).end
-begins_before_end room striping items j s range =
+begins_by_end : (room : ℕ) (striping items : Striping) (j : ℕ) (s : Scenario) → IsScenarioInRange s →
+    (part_of room striping items j s).begin ≤ (part_of room striping items j s).end
+begins_by_end room striping items j s range =
     let begin = range.begin in
-    let lasts = lasts_some s.executor range.executor in
     let ends = lasts_within s.executor range.executor in
     omega arith
 
@@ -29,7 +28,7 @@ due_in_time room striping items j s range a has =
 
 pub part_timed : (room : ℕ) (striping items : Striping) (j : ℕ) (s : Scenario) → IsScenarioInRange s → IsWellTimed (part_of room striping items j s)
 part_timed room striping items j s range =
-    let before = begins_before_end room striping items j s range in
+    let before = begins_by_end room striping items j s range in
     record {
       begins = omega arith;
       ends = omega arith;

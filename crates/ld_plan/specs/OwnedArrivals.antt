@@ -1,8 +1,8 @@
 -- How what a position owns of arrivals is seen, and what holds of its fields.
-use Rattle.std.specs.Prelude.{◌≡◌, ◌<◌, length}
+use Rattle.std.specs.Prelude.{◌<◌, length}
 use Rattle.ld_arrival.specs.Limits.{IsWithinLimits}
 use Rattle.ld_plan.specs.Executor.{arrival_rate}
-use Rattle.ld_plan.specs.OwnedItems.{ArrivalsView, timetable_at}
+use Rattle.ld_plan.specs.OwnedItems.{ArrivalsView}
 use Rattle.ld_plan.specs.declared.owned_arrivals.OwnedArrivals.TheInside.{Inside}
 
 abbrev pub arrivals_view : Inside → ArrivalsView
@@ -12,8 +12,7 @@ arrivals_view o =
       timetable = o.arrivals;
     }
 
--- the arrivals come at the rate, which is within its limits
+-- the rate of the arrivals is within its limits
 pub record AreOwnedArrivals (o : Inside) : Type 0 where
-  pub limits : IsWithinLimits (timetable_at o.rate)
-  pub timetable : o.arrivals ≡ timetable_at o.rate
+  pub limits : IsWithinLimits o.arrivals
   pub position : o.position < length o.items.weights

@@ -15,6 +15,7 @@ mod owned_slots;
 mod part;
 mod plan;
 mod row;
+mod stages_length;
 mod stay;
 mod stays;
 mod striping;

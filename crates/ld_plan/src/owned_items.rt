@@ -87,7 +87,32 @@ impl OwnedItems {
                     planned: *pre,
                     limit: *max,
                 };
-                let owned = OwnedArrivals::of(alloc, number, rate, users, positions, position)?;
+                let owned =
+                    OwnedArrivals::constant(alloc, number, rate, users, positions, position)?;
+                Ok(OwnedItems::Arrivals(owned))
+            }
+            Executor::RampingArrivals {
+                start_rate,
+                unit,
+                stages,
+                pre,
+                max,
+            } => {
+                let users = Users {
+                    planned: *pre,
+                    limit: *max,
+                };
+                let stages = stages.as_slice();
+                let owned = OwnedArrivals::ramping(
+                    alloc,
+                    number,
+                    *start_rate,
+                    *unit,
+                    stages,
+                    users,
+                    positions,
+                    position,
+                )?;
                 Ok(OwnedItems::Arrivals(owned))
             }
         }

@@ -1,12 +1,11 @@
-use Rattle.std.proofs.Common.{◌∙◌, ap, subst, sym}
-use Rattle.ld_arrival.specs.Limits.{IsWithinLimits}
+use Rattle.std.proofs.Common.{◌∙◌, ap, sym}
 use Rattle.ld_arrival.specs.Timetable.{moment_of}
 use Rattle.ld_plan.proofs.OwnedLemmas.{owned_moment}
 use Rattle.ld_plan.proofs.owned_arrivals.OwnedArrivals.moment.Goals as goal
 
 pub returns-clause-due : goal.returns-clause-due
 returns-clause-due c =
-    let limits = subst IsWithinLimits (sym c.self.invariant.timetable) c.self.invariant.limits in
+    let limits = c.self.invariant.limits in
     rw (sym c.self.view_is)
     (record {
       due = λ a has is.

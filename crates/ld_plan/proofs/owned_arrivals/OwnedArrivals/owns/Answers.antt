@@ -1,7 +1,6 @@
 use Rattle.std.proofs.Common.{◌<◌, ◌↔◌, ◌≡◌, ◌∙◌, List, ℕ, subst, sym}
 use Rattle.std.specs.Prelude.{Contains}
 use Rattle.std.proofs.lemmas.Bool.{eq-eqb, eqb-true}
-use Rattle.ld_arrival.specs.Limits.{IsWithinLimits}
 use Rattle.ld_arrival.specs.Timetable.{planned_count}
 use Rattle.ld_stripe.specs.Striping.{owner_at}
 use Rattle.ld_plan.specs.OwnedItems.{ArrivalsView}
@@ -13,7 +12,7 @@ returns c =
     let p = c.self.inside in
     let item = c.args.item in
     let below = subst (λ (o : ArrivalsView). item < planned_count o.timetable) (sym c.self.view_is) c.requires in
-    let limits = subst IsWithinLimits (sym c.self.invariant.timetable) c.self.invariant.limits in
+    let limits = c.self.invariant.limits in
     let owned =
     subst (λ (items : List ℕ). (owner_at p.items.owners item ≡ p.position) ↔ Contains items item)
     (sym (arrival_items p.arrivals p.items.owners p.position limits))

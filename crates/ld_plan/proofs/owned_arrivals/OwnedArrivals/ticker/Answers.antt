@@ -10,6 +10,6 @@ returns-clause-arrivals c =
     let p = c.self.inside in
     rw (sym c.self.view_is)
     (ap (map arrival_of)
-    (c.in-Ok-new.ensures.pairs
-    ∙ ap (λ (s : Striping). owned_pairs s.owners p.position (schedule c.in-Ok.arrivals)) c.in_ok-items.ensures.equal
-    ∙ ap (λ (t : Timetable). owned_pairs p.items.owners p.position (schedule t)) (c.in-Ok.ensures.timetable ∙ sym c.self.invariant.timetable)))
+    (c.in-Ok.ensures.pairs
+    ∙ ap (λ (s : Striping). owned_pairs s.owners p.position (schedule c.in_ok-arrivals.arrivals)) c.in_ok-items.ensures.equal
+    ∙ ap (λ (t : Timetable). owned_pairs p.items.owners p.position (schedule t)) c.in_ok-arrivals.ensures))
