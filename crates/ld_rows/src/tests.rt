@@ -3,6 +3,7 @@ mod faults;
 mod iterations;
 mod known;
 mod memory;
+mod ramps;
 mod refusals;
 mod rehearsals;
 mod report;

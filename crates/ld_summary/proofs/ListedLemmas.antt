@@ -11,13 +11,13 @@ use Rattle.ld_stripe.specs.Striping.{Striping, owned_indices, owner_at, share_at
 use Rattle.ld_arrival.proofs.CountLemmas.{counted}
 use Rattle.ld_arrival.specs.Limits.{IsWithinLimits}
 use Rattle.ld_arrival.specs.Schedule.{arrival_at}
-use Rattle.ld_arrival.specs.Timetable.{Constant, Timetable, planned, planned_count}
+use Rattle.ld_arrival.specs.Timetable.{Constant, Ramping, Timetable, planned, planned_count}
 use Rattle.ld_machine.specs.Plan as machine
 use Rattle.ld_machine.specs.Plan.{Part, owned_items}
 use Rattle.ld_machine.specs.Scenario.{executor_arrivals}
 use Rattle.ld_options.specs.Ranges.{IsInRange, IsScenarioInRange}
 use Rattle.ld_options.specs.declared.executor.Executor.{Executor}
-use Rattle.ld_options.specs.declared.executor.Executor.TheVariants.{SharedIterations, PerVuIterations, ConstantVus, ConstantArrivals}
+use Rattle.ld_options.specs.declared.executor.Executor.TheVariants.{SharedIterations, PerVuIterations, ConstantVus, ConstantArrivals, RampingArrivals}
 use Rattle.ld_options.specs.declared.scenario.Scenario.{Scenario}
 use Rattle.ld_plan.proofs.ExecutorLemmas.{within_limits}
 use Rattle.ld_plan.proofs.OwnedLemmas.{arrival_items, number_owned}
@@ -96,6 +96,9 @@ of_executor part (ConstantVus vus duration) owners striping j ranges is = no_arr
 of_executor part (ConstantArrivals rate unit duration pre max) owners striping j ranges is =
     of_arrivals part (share_at striping.owners j pre) (share_at striping.owners j max) (Constant rate unit duration) owners j
     (within_limits (ConstantArrivals rate unit duration pre max) (Constant rate unit duration) ranges refl) is
+of_executor part (RampingArrivals start_rate unit stages pre max) owners striping j ranges is =
+    of_arrivals part (share_at striping.owners j pre) (share_at striping.owners j max) (Ramping start_rate unit stages) owners j
+    (within_limits (RampingArrivals start_rate unit stages pre max) (Ramping start_rate unit stages) ranges refl) is
 
 -- ---- one scenario of a plan
 
@@ -183,6 +186,7 @@ arrivals_few (SharedIterations vus iterations max_duration) = omega arith
 arrivals_few (PerVuIterations vus iterations max_duration) = omega arith
 arrivals_few (ConstantVus vus duration) = omega arith
 arrivals_few (ConstantArrivals rate unit duration pre max) = omega arith
+arrivals_few (RampingArrivals start_rate unit stages pre max) = omega arith
 
 pub within_items : (seen : PlanView) (n item count : ℕ) → IsMade seen → n < length seen.plan.parts → item < count →
     IsSomeAnd (slice_get seen.wholes n) (λ whole. count ≡ arrival_count whole.timetable) → IsSomeAnd (slice_get seen.plan.parts n) (λ part. item < part.whole_items)

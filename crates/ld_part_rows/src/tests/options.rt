@@ -259,14 +259,6 @@ fn executor_text(alloc: Global, executor: &Executor) -> Result<String, Fail> {
         } => Ok(format!(in alloc;
             "rate {rate} unit {unit} duration {duration} users {pre} {max}"
         )?),
-        Executor::RampingVus {
-            start,
-            stages,
-            ramp_grace,
-        } => {
-            let stages = stages_text(alloc, stages)?;
-            Ok(format!(in alloc; "{name} start {start}{stages} rampGrace {ramp_grace}")?)
-        }
         Executor::RampingArrivals {
             start_rate,
             unit,

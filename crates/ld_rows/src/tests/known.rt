@@ -6,7 +6,7 @@ use std::test::Fail;
 // scenarios, of which the later one begins when the last iteration of the first has to have ended. Then constant users,
 // shared iterations and iterations of each user; two scenarios of constant users, of which the second begins after the
 // first one's last iteration has ended, or beside it; three scenarios of three executors; and scripts with eleven steps that
-// count, and with a group.
+// count, and with a group. Then arrivals that come faster and faster, for one user and for two.
 const TESTS: &str =
     r#"three {"options":{"scenarios":{"main":{"executor":"constant-arrival-rate","rate":3,"duration":"1s","preAllocatedVUs":1}}},"scripts":{"default":[]}}
 four {"options":{"scenarios":{"main":{"executor":"constant-arrival-rate","rate":4,"duration":"1s","preAllocatedVUs":2}}},"scripts":{"default":[]}}
@@ -22,7 +22,9 @@ after {"options":{"scenarios":{"a":{"executor":"constant-vus","vus":2,"duration"
 beside {"options":{"scenarios":{"a":{"executor":"constant-vus","vus":2,"duration":"10s","gracefulStop":"5s"},"b":{"executor":"constant-vus","vus":2,"startTime":"14s","duration":"1s"}}},"scripts":{"default":[]}}
 mixed {"options":{"scenarios":{"a":{"executor":"constant-arrival-rate","rate":2,"duration":"1s","preAllocatedVUs":1},"b":{"executor":"shared-iterations","vus":1,"iterations":2},"c":{"executor":"constant-vus","vus":1,"duration":"1s"}}},"scripts":{"default":[]}}
 counting {"options":{"scenarios":{"main":{"executor":"constant-vus","vus":1,"duration":"1s"}}},"scripts":{"default":[{"count":{"name":"made"}},{"count":{"name":"made"}},{"count":{"name":"made"}},{"count":{"name":"made"}},{"count":{"name":"made"}},{"count":{"name":"made"}},{"count":{"name":"made"}},{"count":{"name":"made"}},{"count":{"name":"made"}},{"count":{"name":"made"}},{"count":{"name":"made"}}]}}
-grouped {"options":{"scenarios":{"main":{"executor":"constant-vus","vus":1,"duration":"1s"}}},"scripts":{"default":[{"sleep":"1s"},{"group":{"name":"pay","steps":[{"count":{"name":"paid","add":3}},{"sleep":250}]}}]}}"#;
+grouped {"options":{"scenarios":{"main":{"executor":"constant-vus","vus":1,"duration":"1s"}}},"scripts":{"default":[{"sleep":"1s"},{"group":{"name":"pay","steps":[{"count":{"name":"paid","add":3}},{"sleep":250}]}}]}}
+rising {"options":{"scenarios":{"main":{"executor":"ramping-arrival-rate","startRate":0,"preAllocatedVUs":1,"stages":[{"duration":"1s","target":10}]}}},"scripts":{"default":[]}}
+rising-for-two {"options":{"scenarios":{"main":{"executor":"ramping-arrival-rate","preAllocatedVUs":2,"stages":[{"duration":"1s","target":10}]}}},"scripts":{"default":[]}}"#;
 
 // Journals, each behind a line with its name:
 // - `one-user`: two arrivals with one user; the second is dropped, since the first is under way;
@@ -41,7 +43,8 @@ grouped {"options":{"scenarios":{"main":{"executor":"constant-vus","vus":1,"dura
 // - `five-shared` and `half-shared`: five iterations of a second that two users share, and the second half of them;
 // - `mixed`: the test `mixed`, with iterations of 400 milliseconds: an arrival is due before the users' next iterations;
 // - `counting`: an iteration may give eleven samples, of which ten have room: no iteration begins;
-// - `grouped`: an iteration of a second, whatever its steps say.
+// - `grouped`: an iteration of a second, whatever its steps say;
+// - `rising`: four arrivals that come faster and faster, with iterations of 100 milliseconds.
 const JOURNALS: &str = r#"# one-user
 ldjournal 1
 test 188
@@ -370,6 +373,25 @@ entries 1000000
 4 0 1000000000 release 0 1
 5 0 1000000000 close 0
 end 5
+# rising
+ldjournal 1
+test 170
+{"options":{"scenarios":{"main":{"executor":"ramping-arrival-rate","startRate":0,"preAllocatedVUs":1,"stages":[{"duration":"1s","target":10}]}}},"scripts":{"default":[]}}
+segment 0:1
+sequence 0,1
+entries 1000000
+1 0 0 take 0 1 0
+2 0 447213596 start 0 1 0 31000000000
+3 0 547213596 return 0 1 0 done 0
+4 0 632455533 start 0 1 1 31000000000
+5 0 732455533 return 0 1 1 done 0
+6 0 774596670 start 0 1 2 31000000000
+7 0 874596670 return 0 1 2 done 0
+8 0 894427191 start 0 1 3 31000000000
+9 0 994427191 return 0 1 3 done 0
+10 0 1000000000 release 0 1
+11 0 1000000000 close 0
+end 11
 "#;
 
 /// The test of this name, or else the text itself.
