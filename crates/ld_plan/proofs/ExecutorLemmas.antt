@@ -27,7 +27,10 @@ use Rattle.ld_plan.proofs.StripingLemmas.{IsSpread, owner_inside, share_rises}
 
 -- no target is over the limit, where all are within it
 none_fast : (stages : List Stage) → All (λ (stage : Stage). stage.target ≤ greatest_rate) stages → Any (λ (stage : Stage). greatest_rate < stage.target) stages → ⊥
-none_fast stages within fast = _
+none_fast stages within fast =
+    let small = subst (λ (stage : Stage). stage.target ≤ greatest_rate) fast.3 (within fast.0 fast.1 fast.2) in
+    let over = fast.4 in
+    omega arith
 
 -- arrivals whose numbers are in their ranges: the timetable is within the limits
 pub arrivals_within : (rate unit duration pre max : ℕ) → AreArrivalsInRange rate unit duration pre max → IsWithinLimits (Constant rate unit duration)
