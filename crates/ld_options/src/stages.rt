@@ -24,11 +24,7 @@ const LENGTHS: Range = Range {
 };
 
 // The stages of a scenario, with targets of at most `greatest`.
-pub(crate) fn stages(
-    alloc: Global,
-    node: &Node<'_>,
-    greatest: u64,
-) -> Result<Stages, OptionsFault>
+pub(crate) fn stages(alloc: Global, node: &Node<'_>, greatest: u64) -> Result<Stages, OptionsFault>
     ensures value { IfOk result (AreStagesOf greatest node.now) }
     ensures within { IfOk result (AreStagesInRange greatest) }
     ensures accepted { IfOk result (λ _. Accepts (RefusesStages greatest node.now)) }

@@ -87,8 +87,9 @@ impl OwnedItems {
                     planned: *pre,
                     limit: *max,
                 };
-                let owned =
-                    OwnedArrivals::constant(alloc, number, rate, users, positions, position)?;
+                let owned = OwnedArrivals::constant(
+                    alloc, number, rate, users, positions, position,
+                )?;
                 Ok(OwnedItems::Arrivals(owned))
             }
             Executor::RampingArrivals {

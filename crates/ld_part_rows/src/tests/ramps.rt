@@ -13,7 +13,8 @@ executor "ramping-arrival-rate", startTime "1s", gracefulStop "2s", startRate 3,
 
 // Members of a scenario, with the cause for which it is refused: names of executors, the list of stages, its elements, all
 // of them together, other fields, and two values of which one is looked at first.
-const REFUSED: &str = r#"executor "ramping-arrival-rates", stages [] => BadExecutor /options/scenarios/main/executor
+const REFUSED: &str =
+    r#"executor "ramping-arrival-rates", stages [] => BadExecutor /options/scenarios/main/executor
 executor "ramping-arrival-rate", preAllocatedVUs 1 => Missing /options/scenarios/main/stages
 executor "ramping-arrival-rate", preAllocatedVUs 1, stages null => WrongKind /options/scenarios/main/stages
 executor "ramping-arrival-rate", preAllocatedVUs 1, stages {} => WrongKind /options/scenarios/main/stages
