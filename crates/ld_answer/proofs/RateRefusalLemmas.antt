@@ -22,8 +22,8 @@ use Rattle.ld_options.specs.Executors.{kind_of}
 use Rattle.ld_options.specs.Faults.{Refused, of_node}
 use Rattle.ld_options.specs.Fields.{given, number, ranged}
 use Rattle.ld_options.specs.Ranges.{longest}
-use Rattle.ld_options.specs.Scenarios.{HasBadName, IsLost, RefusesFields, RefusesKnown, RefusesScenario, RefusesScript, spans}
-use Rattle.ld_options.specs.Times.{RefusesTime, durations, units}
+use Rattle.ld_options.specs.Scenarios.{HasBadName, IsLost, RefusesFields, RefusesKnown, RefusesScenario, RefusesScript}
+use Rattle.ld_options.specs.Times.{RefusesTime, durations, spans, units}
 use Rattle.ld_options.specs.Users.{RefusesGreatest, greatest, planned_users, pre_allocated, users}
 use Rattle.ld_options.specs.declared.fault.OptionsFault.{OptionsFault}
 use Rattle.ld_options.specs.declared.fault.OptionsFault.TheVariants as faults
